@@ -1,0 +1,9 @@
+pub mod Lists
+pub mod Contents
+pub mod Blocks
+pub mod Legal
+pub mod Adding
+pub mod Meaning
+pub mod Drafts
+pub mod Tasks
+pub mod Answers
