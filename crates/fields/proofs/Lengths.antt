@@ -6,12 +6,14 @@ use Prim.Native.Nat.{ℕ, _+_, _*_, _≤_}
 use native.Mathlib.Omega.{arith}
 use lib.Dec.{leb, eqb}
 use lib.ListN.{length, take, drop, getD, length-take, length-drop}
+use Rattle.std.proofs.shelf.Lists.{length-take-le}
 use Rattle.std.proofs.shelf.Tests.{leb-true, eqb-true}
+use Rattle.std.proofs.shelf.Ways.{tells}
 use Rattle.std.specs.declared.option.Option.{Option}
 use Rattle.std.specs.declared.option.Option.the-variants.{Some, None}
 use Rattle.fields.specs.declared.tag.Tag.{Tag}
 use Rattle.fields.specs.declared.tag.Tag.the-variants as tags
-use Rattle.fields.specs.Layout.{FieldContents, header, point, evicting, end, FieldAt, field, fault, tag-of, allows, contents-of, judged, field-at, body-length}
+use Rattle.fields.specs.Layout.{FieldContents, header, point, evicting, end, FieldAt, field, fault, tag-of, allows, contents-of, judged, field-at, body-length, sized}
 
 contents-length : (t : Tag) (n : ℕ) (xs : List ℕ) → allows t n ≡ true → length xs ≡ n → body-length (contents-of t xs) ≡ n
 contents-length tags.Header n xs h e = e
@@ -46,3 +48,20 @@ field-lengths place (t ∷ hi ∷ []) part at after e = absurd (let z : _≡_ {A
 field-lengths place (t ∷ hi ∷ lo ∷ rest) part at after e =
     let r = judged-lengths place (hi * 256 + lo) (tag-of t) rest part at after e in
     (r .0, let m = r .1 in omega arith)
+
+contents-sized : (t : Tag) (body : List ℕ) → allows t (length body) ≡ true → sized (contents-of t body) ≡ true
+contents-sized tags.Header body ok = ok
+contents-sized tags.Point body ok = ok
+contents-sized tags.Evicting body ok = ok
+contents-sized tags.End body ok = refl
+
+judged-sized : (place : ℕ) (o : Option Tag) (n : ℕ) (rest : List ℕ) (f : FieldContents) (at : ℕ) (after : List ℕ) → judged place o n rest ≡ field f at after → sized f ≡ true
+judged-sized place None n rest f at after e = absurd (let z : _≡_ {A = ℕ} 0 1 = cc in omega arith)
+judged-sized place (Some t) n rest f at after e = let l = length-take-le n rest in let ok = contents-sized t (take n rest) in grind (arith, tells)
+
+-- a field that was found has a length that its tag allows
+pub field-sized : (place : ℕ) (bs : List ℕ) (f : FieldContents) (at : ℕ) (after : List ℕ) → field-at place bs ≡ field f at after → sized f ≡ true
+field-sized place [] f at after e = absurd (let z : _≡_ {A = ℕ} 0 1 = cc in omega arith)
+field-sized place (t ∷ []) f at after e = absurd (let z : _≡_ {A = ℕ} 0 1 = cc in omega arith)
+field-sized place (t ∷ hi ∷ []) f at after e = absurd (let z : _≡_ {A = ℕ} 0 1 = cc in omega arith)
+field-sized place (t ∷ hi ∷ lo ∷ rest) f at after e = judged-sized place (tag-of t) (hi * 256 + lo) rest f at after e

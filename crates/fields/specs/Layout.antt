@@ -65,3 +65,10 @@ body-length (header body) = length body
 body-length (point body) = length body
 body-length (evicting body) = length body
 body-length end = 0
+
+-- the body is as long as the tag allows
+abbrev pub sized : FieldContents → Bool
+sized (header body) = allows tags.Header (length body)
+sized (point body) = allows tags.Point (length body)
+sized (evicting body) = allows tags.Evicting (length body)
+sized end = true

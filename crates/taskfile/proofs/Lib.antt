@@ -1,0 +1,4 @@
+pub mod Stepping
+pub mod PointBytes
+pub mod Fieldwise
+pub mod Answering

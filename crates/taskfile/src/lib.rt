@@ -1,0 +1,7 @@
+// Task files: reads one into a task, and writes one into a buffer.
+pub mod fault;
+mod read;
+mod sizes;
+pub(crate) mod step;
+
+pub use read::read_task;
