@@ -60,7 +60,11 @@ Kept-unless-taken (Ok progress.Taken) t u = Unit {0}
 Kept-unless-taken (Ok progress.Ended) t u = u ≡ t
 Kept-unless-taken (Err cause) t u = u ≡ t
 
--- the bytes are written to the front of a buffer, whose rest stays; or the buffer is too short for them, and stays whole
+-- n bytes were written to the front of a buffer, whose rest stays
+abbrev pub Filled : List ℕ → List ℕ → List ℕ → ℕ → Type 0
+Filled bytes before after n = (n ≡ length bytes) × (after ≡ bytes ++ drop n before)
+
+-- the bytes are written, or the buffer is too short for them, and stays whole
 abbrev pub Written : List ℕ → List ℕ → List ℕ → Result ℕ TooShort → Type 0
-Written bytes before after (Ok n) = (n ≡ length bytes) × (after ≡ bytes ++ drop n before)
+Written bytes before after (Ok n) = Filled bytes before after n
 Written bytes before after (Err e) = (length before < length bytes) × (after ≡ before)

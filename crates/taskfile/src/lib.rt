@@ -3,5 +3,7 @@ pub mod fault;
 mod read;
 mod sizes;
 pub(crate) mod step;
+mod write;
 
 pub use read::read_task;
+pub use write::write_task;

@@ -26,9 +26,15 @@ point-field p = point (access-bytes (p .access) ++ p .successors)
 abbrev pub evicting-field : ℕ → FieldContents
 evicting-field b = evicting (four-bytes b)
 
+abbrev pub last-fields : List ℕ → List FieldContents
+last-fields blocks = map evicting-field blocks ++ (end ∷ [])
+
+abbrev pub fields-after-header : TaskContents → List FieldContents
+fields-after-header t = map point-field (t .points) ++ last-fields (t .evicting)
+
 -- the header, the points, the evicting blocks, the end
 abbrev pub fields-of : TaskContents → List FieldContents
-fields-of t = header-field t ∷ (map point-field (t .points) ++ (map evicting-field (t .evicting) ++ (end ∷ [])))
+fields-of t = header-field t ∷ fields-after-header t
 
 abbrev pub task-bytes : TaskContents → List ℕ
 task-bytes t = joined field-bytes (fields-of t)
