@@ -12,7 +12,7 @@ use Rattle.std.proofs.shelf.Tests.{and-parts, and-from, eqb-true, cond-true, co
 use Rattle.std.proofs.shelf.Ways.{tells}
 use Rattle.task.specs.Contents.{PointContents}
 use Rattle.task.specs.Blocks.{noted, noted-all, distinct-blocks, is-access, accessed, access-at, Lists-each-access-once}
-use Rattle.task.specs.Lists.{has, distinct}
+use Rattle.recency.specs.Blocks.{has, distinct}
 use Rattle.task.proofs.Noting.{noted-old, noted-new}
 
 or-assoc : (x y z : Bool) → ((x || y) || z) ≡ (x || (y || z))

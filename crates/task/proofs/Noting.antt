@@ -16,7 +16,7 @@ use Rattle.std.proofs.shelf.Tests.{cond-true, cond-false}
 use Rattle.std.proofs.shelf.Ways.{decides-by-or, decides-eqb, decides-like, same-from-decides}
 use Rattle.task.specs.Contents.{PointContents}
 use Rattle.task.specs.Blocks.{noted, noted-all}
-use Rattle.task.specs.Lists.{has}
+use Rattle.recency.specs.Blocks.{has}
 
 -- what `contains` answers is `has`
 pub has-contained : (xs : List ℕ) (b : ℕ) (r : Bool) → Some-of (λ y t. Decides t (y ≡ b)) xs r → r ≡ has b xs

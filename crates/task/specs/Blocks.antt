@@ -2,12 +2,13 @@
 use mathlib.Core.Path.{_≡_}
 use mathlib.Core.Bool.{Bool, true, false, cond, _||_}
 use mathlib.Core.List.{List, [], _∷_, _++_}
-use Prim.Native.Nat.{ℕ, zero, suc, _%_}
+use Prim.Native.Nat.{ℕ, zero, suc}
 use lib.Dec.{eqb}
 use Rattle.std.specs.declared.option.Option.{Option}
 use Rattle.std.specs.declared.option.Option.the-variants.{Some, None}
+use Rattle.recency.specs.Blocks.{distinct, has}
 use Rattle.task.specs.Contents.{PointContents}
-use Rattle.task.specs.Lists.{distinct, first-from, has}
+use Rattle.task.specs.Lists.{first-from}
 
 -- the blocks seen so far, after one more access
 abbrev pub noted : List ℕ → Option ℕ → List ℕ
@@ -45,7 +46,3 @@ abbrev pub access-at : List PointContents → ℕ → Option ℕ
 access-at [] k = None
 access-at (p ∷ ps) zero = p .access
 access-at (p ∷ ps) (suc k) = access-at ps k
-
--- the cache set that a block belongs to
-abbrev pub set-of : ℕ → ℕ → ℕ
-set-of sets b = b % sets

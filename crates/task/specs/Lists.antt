@@ -1,23 +1,14 @@
 -- Words on lists that the other definitions use.
-use mathlib.Core.Bool.{Bool, true, false, not, cond, _&&_, _||_}
+use mathlib.Core.Bool.{Bool, true, cond, _&&_}
 use mathlib.Core.List.{List, [], _∷_}
 use Prim.Native.Nat.{ℕ, suc}
-use lib.Dec.{eqb, ltb}
+use lib.Dec.{ltb}
 use Rattle.std.specs.declared.option.Option.{Option}
 use Rattle.std.specs.declared.option.Option.the-variants.{Some, None}
 
 abbrev pub every : {X : Type 0} → (X → Bool) → List X → Bool
 every test [] = true
 every test (x ∷ xs) = test x && every test xs
-
-abbrev pub has : ℕ → List ℕ → Bool
-has b [] = false
-has b (x ∷ xs) = eqb b x || has b xs
-
--- no number stands twice
-abbrev pub distinct : List ℕ → Bool
-distinct [] = true
-distinct (x ∷ xs) = not (has x xs) && distinct xs
 
 -- each number is below the next
 abbrev pub rising : List ℕ → Bool

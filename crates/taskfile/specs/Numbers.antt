@@ -1,4 +1,4 @@
--- The number of each cause of the task layer.
+-- The number of each cause of the task layer, and of the writer's.
 use Prim.Native.Nat.{ℕ}
 use Rattle.taskfile.specs.declared.fault.TaskCause.{TaskCause}
 use Rattle.taskfile.specs.declared.fault.TaskCause.the-variants as causes
@@ -11,3 +11,7 @@ task-number causes.Value = 5
 task-number causes.Number = 6
 task-number causes.Successor = 7
 task-number causes.Trailing = 8
+
+-- buffer too short to write into
+abbrev pub too-short-number : ℕ
+too-short-number = 9

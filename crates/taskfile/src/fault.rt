@@ -1,5 +1,6 @@
 ghost use mathlib.Core.Path.{_≡_};
 ghost use Rattle.task.specs.declared.faults.AddFault.the-variants as adds;
+ghost use Rattle.taskfile.specs.Numbers.{task-number, too-short-number};
 ghost use Rattle.taskfile.specs.declared.fault.TaskCause.the-variants.{Number, Value};
 ghost use Rattle.taskfile.specs.declared.fault.TaskFault.the-variants.{Fields};
 use fields::FieldFault;
@@ -20,6 +21,14 @@ pub enum TaskCause {
     Trailing = 8,
 }
 
+impl TaskCause {
+    pub fn number(self) -> u8
+        ensures { λ r. ⌜ r ≡ task-number self ⌝ }
+    {
+        self as u8
+    }
+}
+
 // Why a file is not read. A fault of the fields layer travels whole.
 #[derive(Clone, Copy)]
 pub enum TaskFault {
@@ -31,6 +40,14 @@ pub enum TaskFault {
 // The buffer is too short for the file, and as it was.
 #[derive(Clone, Copy)]
 pub struct TooShort;
+
+impl TooShort {
+    pub fn number(self) -> u8
+        ensures { λ r. ⌜ r ≡ too-short-number ⌝ }
+    {
+        9
+    }
+}
 
 pub impl From<FieldFault> for TaskFault as TaskFaultFromField {
     ghost converts = { λ f r. r ≡ Fields f };

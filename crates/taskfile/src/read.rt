@@ -4,6 +4,7 @@ ghost use Rattle.std.specs.Vec.{made};
 ghost use Rattle.fields.specs.Layout.{header as header-field, sized};
 ghost use Rattle.task.specs.Drafts.{draft-contents};
 ghost use Rattle.task.specs.Tasks.{contents};
+ghost use Rattle.taskformat.specs.Inverse.{Rewriting-keeps-the-bytes};
 ghost use Rattle.taskformat.specs.Reading.{closed, is-empty, meaning};
 ghost use Rattle.taskformat.specs.Writing.{task-bytes};
 ghost use Rattle.taskfile.specs.Answers.{Answered, Begun, Header-is-legal};
@@ -27,6 +28,7 @@ use task::task::Task;
 // Reads a task file. Want of memory is told only where the header is legal.
 pub fn read_task(heap: Global, file: &[u8]) -> Result<Task, TaskFault>
     ensures answer { λ r. ⌜ Answered (Header-is-legal (now (file .entry))) (meaning (now (file .entry))) r ⌝ }
+    ensures law { λ _. ⌜ Rewriting-keeps-the-bytes ⌝ }
     ensures rewriting_keeps_the_bytes { λ r. ⌜ made r (λ t. task-bytes (contents t) ≡ now (file .entry)) ⌝ }
 {
     read_fields(heap, file)
@@ -75,10 +77,8 @@ fn close(draft: TaskDraft, after: &[u8], place: usize) -> Result<Task, TaskFault
     requires { ⌜ is-empty (draft-contents draft .points) ≡ false ⌝ }
     ensures { λ r. ⌜ Answered ⊥ (closed place (now (after .entry)) (draft-contents draft)) r ⌝ }
 {
-    if !after.is_empty() {
-        return Err(TaskFault::Task(TaskCause::Trailing, place));
-    }
     match draft.finish() {
+        _ if !after.is_empty() => Err(TaskFault::Task(TaskCause::Trailing, place)),
         Ok(task) => Ok(task),
         Err(unfinished) => match unfinished.cause {
             UnfinishedCause::NoPoint => unreachable(),

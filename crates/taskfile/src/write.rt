@@ -7,6 +7,7 @@ ghost use Rattle.std.specs.shelf.Lists.{joined};
 ghost use Rattle.fields.specs.Layout.{field-bytes, header as header-field};
 ghost use Rattle.task.specs.Meaning.{all-contents, point-contents};
 ghost use Rattle.task.specs.Tasks.{contents};
+ghost use Rattle.taskformat.specs.Inverse.{Rereading-keeps-the-task};
 ghost use Rattle.taskformat.specs.Reading.{accepted, meaning};
 ghost use Rattle.taskformat.specs.Writing.{access-bytes, evicting-field, fields-after-header, four-bytes, last-fields, point-field, task-bytes};
 ghost use Rattle.taskfile.specs.Answers.{Filled, Written};
@@ -20,6 +21,7 @@ use task::task::Task;
 // Writes the file of a task to the front of a buffer, and answers its length.
 pub fn write_task(task: &Task, out: &mut [u8]) -> Result<usize, TooShort>
     ensures answer { λ r. ⌜ Written (task-bytes (contents (now (task .entry)))) (now (out .entry)) (now (out .exit)) r ⌝ }
+    ensures law { λ _. ⌜ Rereading-keeps-the-task ⌝ }
     ensures rereading_keeps_the_task { λ r. ⌜ made r (λ n. meaning (take n (now (out .exit))) ≡ accepted (contents (now (task .entry)))) ⌝ }
 {
     if out.len() < file_size(task) {

@@ -12,5 +12,6 @@ returns c =
     let bytes = all-from-getD (λ b. b < 256) file 0 (λ i _. omega (arith, c .typed .file i)) in
     record {
       answer = c .read-fields .ensures;
+      law = rewriting-keeps-the-bytes;
       rewriting-keeps-the-bytes = accepted-made _ _ _ (c .read-fields .result) (λ t e. rewriting-keeps-the-bytes file t bytes e) (c .read-fields .ensures);
     }

@@ -24,6 +24,12 @@ reread : (t : TaskContents) (before after : List ℕ) (n : ℕ) → legal t ≡ 
 reread t before after n h f =
     ap meaning (ap (take n) (f .1) ∙ take-at (task-bytes t) (drop n before) n (sym (f .0))) ∙ rereading-keeps-the-task t h
 
+pub returns-then-out-file-size : need.returns-then-out-file-size
+returns-then-out-file-size c =
+    let t = contents (c .args .task .now) in
+    let short : length (c .args .out .now) < length (task-bytes t) = let e = c .file-size .ensures in omega (arith, c .if-out-file-size .taken) in
+    record { answer = (short, refl); law = rereading-keeps-the-task; rereading-keeps-the-task = tt }
+
 pub returns : need.returns
 returns c =
     let t = contents (c .args .task .now) in
@@ -36,4 +42,4 @@ returns c =
     let fits : length (task-bytes t) ≤ length (c .args .out .now) = let e = c .file-size .ensures in omega (arith, c .if-out-file-size .left) in
     let all = two-parts (field-bytes (header-field t)) (joined field-bytes (fields-after-header t)) (task-bytes t) (c .args .out .now) (c .put-header-at .last .out) (c .put-fields .last .out) (c .put-header-at .result) (c .put-fields .result) refl fits
         (filled-as _ _ _ _ _ h (c .put-header-at .ensures)) (c .put-fields .ensures) in
-    record { answer = all; rereading-keeps-the-task = reread t (c .args .out .now) _ _ (p .legal) all }
+    record { answer = all; law = rereading-keeps-the-task; rereading-keeps-the-task = reread t (c .args .out .now) _ _ (p .legal) all }

@@ -12,7 +12,7 @@ use Rattle.std.specs.declared.option.Option.the-variants.{Some, None}
 use Rattle.std.proofs.shelf.Lists.{length-push}
 use Rattle.std.proofs.shelf.Tests.{le-leb, lt-leb}
 use Rattle.task.specs.Blocks.{noted}
-use Rattle.task.specs.Lists.{has}
+use Rattle.recency.specs.Blocks.{has}
 use Rattle.task.proofs.Noting.{has-contained, noted-old, noted-new}
 use Rattle.task.proofs.draft.methods.note_access.Needs as need
 

@@ -1,0 +1,4 @@
+pub mod Blocks
+pub mod Recency
+pub mod Rows
+pub mod Paired

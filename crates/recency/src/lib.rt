@@ -1,0 +1,1 @@
+// Lists of blocks ordered by recency of access, as definitions with their laws.
