@@ -11,7 +11,7 @@ from pathlib import Path
 
 from reference import Point, Task, read, write
 
-HERE = Path(__file__).parent
+HERE = Path(__file__).parent.parent.parent / "crates" / "filecases"
 
 # ---- pieces of files, with their sizes in bytes ----
 

@@ -1,4 +1,4 @@
-"""Write the example task files into examples/.
+"""Write the example task files into the folder examples of the repository.
 
 A block lies in the cache set whose number is the block modulo the sets.
 """
@@ -7,7 +7,7 @@ from pathlib import Path
 
 from reference import Point, Task, read, write
 
-HERE = Path(__file__).parent / "examples"
+HERE = Path(__file__).parent.parent.parent / "examples"
 
 # Blocks of the radio task: code from 0x0800, data from 0x2000
 RADIO_ENTER, RADIO_LOOP, RADIO_FIFO = 0x0800, 0x0801, 0x0802

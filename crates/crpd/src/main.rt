@@ -21,7 +21,11 @@ or why the file is refused, and then ends with status 1:
 fn main(rt: LibcRuntime) -> Result<(), AnyError> {
     if let Some(arg) = env::args(&rt)?.nth(1) {
         rt.print(HELP)?;
-        return if arg.as_str() == "--help" { Ok(()) } else { Err("unknown argument".into()) };
+        return if arg.as_str() == "--help" {
+            Ok(())
+        } else {
+            Err("unknown argument".into())
+        };
     }
     let heap = rt.alloc();
     let mut file = Vec::new(heap);

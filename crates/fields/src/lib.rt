@@ -53,20 +53,36 @@ pub fn take_field(bytes: &[u8], place: usize) -> Result<Taken<'_>, FieldFault>
     ensures { λ r. ⌜ said r ≡ field-at place (now (bytes .entry)) ⌝ }
 {
     let [tag, hi, lo, rest @ ..] = bytes else {
-        return Err(FieldFault { cause: FieldCause::Cut, place });
+        return Err(FieldFault {
+            cause: FieldCause::Cut,
+            place,
+        });
     };
     let Some(tag) = tag_from(*tag) else {
-        return Err(FieldFault { cause: FieldCause::Tag, place });
+        return Err(FieldFault {
+            cause: FieldCause::Tag,
+            place,
+        });
     };
     let length = u16::from_be_bytes([*hi, *lo]) as usize;
     if !allows(tag, length) {
-        return Err(FieldFault { cause: FieldCause::Length, place });
+        return Err(FieldFault {
+            cause: FieldCause::Length,
+            place,
+        });
     }
     if rest.len() < length {
-        return Err(FieldFault { cause: FieldCause::Cut, place });
+        return Err(FieldFault {
+            cause: FieldCause::Cut,
+            place,
+        });
     }
     let (body, after) = rest.split_at(length);
-    Ok(Taken { field: field_of(tag, body), place, after })
+    Ok(Taken {
+        field: field_of(tag, body),
+        place,
+        after,
+    })
 }
 
 fn tag_from(byte: u8) -> Option<Tag>

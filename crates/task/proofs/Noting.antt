@@ -22,7 +22,7 @@ use Rattle.recency.specs.Blocks.{has}
 pub has-contained : (xs : List ℕ) (b : ℕ) (r : Bool) → Some-of (λ y t. Decides t (y ≡ b)) xs r → r ≡ has b xs
 has-contained xs b r h =
     same-from-decides r (has b xs) (has-from-contains xs b r h)
-      (decides-by-or (λ y. eqb b y) (λ y. y ≡ b) (has b) (λ y. decides-like (eqb b y) sym sym (decides-eqb b y)) refl (λ _ _. refl) xs)
+    (decides-by-or (λ y. eqb b y) (λ y. y ≡ b) (has b) (λ y. decides-like (eqb b y) sym sym (decides-eqb b y)) refl (λ _ _. refl) xs)
 
 pub noted-old : (seen : List ℕ) (b : ℕ) → has b seen ≡ true → noted seen (Some b) ≡ seen
 noted-old seen b h = cond-true (has b seen) seen (seen ++ (b ∷ [])) h

@@ -40,10 +40,11 @@ filled-more at m xs ys before mid new f h g =
     let fresh : new ≡ ys ++ drop (at + m) before = g .1 ∙ ap (λ zs. ys ++ drop m zs) (take-rest mid at ∙ back) ∙ ap (λ zs. ys ++ zs) (drop-drop m at before) in
     let n = length-append xs ys in
     let a = f .0 in
-    let b = g .0 in
-    ( omega arith
-    , ap (λ zs. take at mid ++ (new ++ zs)) past ∙ ap (λ zs. take at mid ++ zs) (append-nil new ∙ fresh)
-      ∙ ap (λ zs. zs ++ (ys ++ drop (at + m) before)) front ∙ sym (append-assoc xs ys (drop (at + m) before)) )
+    let b = g .0 in (
+      omega arith,
+      ap (λ zs. take at mid ++ (new ++ zs)) past ∙ ap (λ zs. take at mid ++ zs) (append-nil new ∙ fresh)
+          ∙ ap (λ zs. zs ++ (ys ++ drop (at + m) before)) front ∙ sym (append-assoc xs ys (drop (at + m) before)),
+    )
 
 module _ {X : Type 0} (bytes : X → List ℕ) where
   pub joined-append : (xs ys : List X) → joined bytes (xs ++ ys) ≡ joined bytes xs ++ joined bytes ys

@@ -11,8 +11,8 @@ ghost use Rattle.taskfile.specs.Answers.{Answered, Begun, Header-is-legal};
 use crate::fault::TaskCause;
 use crate::fault::TaskFault;
 use crate::fault::TaskFaultFromField;
-use crate::sizes::HEADER_SIZE;
 use crate::sizes::HEAD_SIZE;
+use crate::sizes::HEADER_SIZE;
 use crate::sizes::point_place;
 use crate::step::Progress;
 use crate::step::step;
@@ -63,9 +63,18 @@ fn begin(heap: Global, body: &[u8]) -> Result<TaskDraft, TaskFault>
     requires { ⌜ sized (header-field (now body)) ≡ true ⌝ }
     ensures { λ r. ⌜ Begun (now (body .entry)) r ⌝ }
 {
-    let [sets, ways, a, b, c, d] = body else { unreachable() };
+    let [sets, ways, a, b, c, d] = body else {
+        unreachable()
+    };
     let reload = u32::from_be_bytes([*a, *b, *c, *d]);
-    match TaskDraft::new(heap, CacheParameters { sets: *sets, ways: *ways, reload }) {
+    match TaskDraft::new(
+        heap,
+        CacheParameters {
+            sets: *sets,
+            ways: *ways,
+            reload,
+        },
+    ) {
         Ok(draft) => Ok(draft),
         Err(StartFault::Value) => Err(TaskFault::Task(TaskCause::Value, 0)),
         Err(StartFault::Memory) => Err(TaskFault::Memory),
@@ -83,7 +92,10 @@ fn close(draft: TaskDraft, after: &[u8], place: usize) -> Result<Task, TaskFault
         Err(unfinished) => match unfinished.cause {
             UnfinishedCause::NoPoint => unreachable(),
             UnfinishedCause::NoSuccessor(k) => {
-                Err(TaskFault::Task(TaskCause::Successor, point_place(unfinished.draft.points(), k)))
+                Err(TaskFault::Task(
+                    TaskCause::Successor,
+                    point_place(unfinished.draft.points(), k),
+                ))
             }
         },
     }

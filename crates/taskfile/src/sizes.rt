@@ -9,6 +9,7 @@ use task::point::Point;
 
 // Tag and length.
 pub(crate) const HEAD_SIZE: usize = 3;
+
 pub(crate) const HEADER_SIZE: usize = HEAD_SIZE + 6;
 
 pub(crate) fn point_size(point: &Point) -> usize

@@ -74,7 +74,10 @@ fn point_from(body: &[u8]) -> Option<Point>
 {
     match body {
         [0, successors @ ..] => Point::new(None, successors),
-        [1, a, b, c, d, successors @ ..] => Point::new(Some(u32::from_be_bytes([*a, *b, *c, *d])), successors),
+        [1, a, b, c, d, successors @ ..] => Point::new(
+            Some(u32::from_be_bytes([*a, *b, *c, *d])),
+            successors,
+        ),
         _ => None,
     }
 }

@@ -79,11 +79,13 @@ abbrev pub reading : ℕ → ℕ → List ℕ → TaskContents → Outcome
 reading zero place bytes t = refused fields-layer 1 place
 reading (suc n) place bytes t =
     elim (field-at place bytes) [
-        fault number at ↦ refused fields-layer number at
+      | fault number at ↦ refused fields-layer number at
       | field f at after ↦ elim (step t f) [
-            taken u ↦ reading n (place + (3 + body-length f)) after u
-          | ended ↦ closed (place + 3) after t
-          | wrong number ↦ refused task-layer number place ] ]
+        | taken u ↦ reading n (place + (3 + body-length f)) after u
+        | ended ↦ closed (place + 3) after t
+        | wrong number ↦ refused task-layer number place
+      ]
+    ]
 
 -- the header begins the file
 abbrev pub begun : FieldContents → List ℕ → Outcome

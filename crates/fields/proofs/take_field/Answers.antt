@@ -15,5 +15,5 @@ returns c =
     let r = take-rest bs 3 in
     let d = length-drop 3 bs in
     taken (c .args .place) n bs (c .split-at .result .1 .now) (c .in-Some .tag) _
-      (search needs) (sym (c .in-Some .ensures tt)) (c .from-be-bytes-length .ensures) (search needs) (search needs)
-      (c .field-of .ensures ∙ ap (contents-of (c .in-Some .tag)) (c .split-at .ensures .front ∙ ap (take n) r)) (c .split-at .ensures .back ∙ ap (drop n) r)
+    (search needs) (sym (c .in-Some .ensures tt)) (c .from-be-bytes-length .ensures) (search needs) (search needs)
+    (c .field-of .ensures ∙ ap (contents-of (c .in-Some .tag)) (c .split-at .ensures .front ∙ ap (take n) r)) (c .split-at .ensures .back ∙ ap (drop n) r)

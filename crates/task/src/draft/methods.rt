@@ -21,7 +21,9 @@ use crate::point::Point;
 use std::alloc::Global;
 
 const MAX_POINTS: usize = 128;
+
 const MAX_BLOCKS: usize = 64;
+
 const MAX_EVICTING: usize = 64;
 
 impl TaskDraft {
@@ -41,7 +43,12 @@ impl TaskDraft {
         let Ok(evicting) = Vec::with_capacity(heap, MAX_EVICTING) else {
             return Err(StartFault::Memory);
         };
-        Ok(TaskDraft { cache, points, blocks, evicting })
+        Ok(TaskDraft {
+            cache,
+            points,
+            blocks,
+            evicting,
+        })
     }
 
     // One point more, or a refusal that leaves the draft as it was.

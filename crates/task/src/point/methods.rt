@@ -10,6 +10,7 @@ use crate::point::Point;
 
 impl Point {
     pub const MAX_SUCCESSORS: usize = 4;
+
     pub const MAX_BLOCK: u32 = 16_777_215;
 
     // A point, or `None` where the block is above `MAX_BLOCK`, or the successors are too many or do not rise.
@@ -22,7 +23,11 @@ impl Point {
         }
         let mut all = [0; Self::MAX_SUCCESSORS];
         all[0..n].copy_from_slice(successors);
-        Some(Point { access, successors: all, count: n as u8 })
+        Some(Point {
+            access,
+            successors: all,
+            count: n as u8,
+        })
     }
 
     pub fn access(&self) -> Option<u32>

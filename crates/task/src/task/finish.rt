@@ -15,11 +15,17 @@ impl TaskDraft {
         ensures { λ r. ⌜ Finishes (draft-contents self) r ⌝ }
     {
         if self.points().is_empty() {
-            return Err(Unfinished { draft: self, cause: UnfinishedCause::NoPoint });
+            return Err(Unfinished {
+                draft: self,
+                cause: UnfinishedCause::NoPoint,
+            });
         }
         match lowest_open(self.points()) {
             None => Ok(Task { draft: self }),
-            Some(k) => Err(Unfinished { draft: self, cause: UnfinishedCause::NoSuccessor(k) }),
+            Some(k) => Err(Unfinished {
+                draft: self,
+                cause: UnfinishedCause::NoSuccessor(k),
+            }),
         }
     }
 }

@@ -21,11 +21,22 @@ impl Task {
     pub fn blank(heap: Global) -> Result<Task, AllocError>
         ensures { λ r. ⌜ made r (λ t. contents t ≡ blank-task) ⌝ }
     {
-        let Ok(mut draft) = TaskDraft::new(heap, CacheParameters { sets: 1, ways: 1, reload: 0 }) else {
+        let Ok(mut draft) = TaskDraft::new(
+            heap,
+            CacheParameters {
+                sets: 1,
+                ways: 1,
+                reload: 0,
+            },
+        ) else {
             return Err(AllocError);
         };
-        let Some(point) = Point::new(None, &[]) else { unreachable() };
-        let Ok(()) = draft.add_point(point) else { unreachable() };
+        let Some(point) = Point::new(None, &[]) else {
+            unreachable()
+        };
+        let Ok(()) = draft.add_point(point) else {
+            unreachable()
+        };
         match draft.finish() {
             Ok(task) => Ok(task),
             Err(_) => unreachable(),

@@ -67,4 +67,4 @@ fields-again c =
     let taken = c .in-Continue-taken .taken in
     let u = draft-contents (c .step .last .draft) in
     taken-here (c .args .file .now) (c .fields .place) (c .fields .rest .now) (draft-contents (c .fields .draft)) (c .fields .inv) (field-contents (taken .field)) (taken .place) (taken .after .now) (sym (c .in-Continue-taken .ensures tt)) u
-      (sym (taken-said (c .in-Ok .progress) u _ (c .in-rest-progress .is) (c .in-Ok .ensures tt .step)))
+    (sym (taken-said (c .in-Ok .progress) u _ (c .in-rest-progress .is) (c .in-Ok .ensures tt .step)))

@@ -18,7 +18,7 @@ put-block-at-requires c κs =
 pub loop-block-again : need.loop-block-again
 loop-block-again c =
     next-filled block-bytes (c .args .blocks .now) (c .loop-block .block-index) 0 (c .loop-block .at) (c .loop-block .out) (c .args .out .now) (c .loop-block-test .taken) (c .loop-block .inv .0) (c .loop-block .kept .out) (c .pre)
-      (c .put-block-at .result) (c .put-block-at .last .out) (c .put-block-at .ensures)
+    (c .put-block-at .result) (c .put-block-at .last .out) (c .put-block-at .ensures)
 
 pub returns : need.returns
 returns c =

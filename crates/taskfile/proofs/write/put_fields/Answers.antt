@@ -51,4 +51,4 @@ pub returns : need.returns
 returns c =
     let t = contents (c .args .task .now) in
     two-parts (points-bytes (c .points .result .now)) (last t) _ (c .args .out .now) (c .put-points-at .last .out) (c .put-last .last .out) (c .put-points-at .result) (c .put-last .result) (parts (c .points .result .now) t (c .points .ensures)) (c .pre) (c .put-points-at .ensures)
-      (filled-as _ _ _ _ _ (ap (λ (bs : List ℕ). joined field-bytes (last-fields bs)) (c .evicting .ensures)) (c .put-last .ensures))
+    (filled-as _ _ _ _ _ (ap (λ (bs : List ℕ). joined field-bytes (last-fields bs)) (c .evicting .ensures)) (c .put-last .ensures))

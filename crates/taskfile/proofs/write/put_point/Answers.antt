@@ -34,7 +34,7 @@ returns c =
     let before = c .args .out .now in
     let four : length successors ≤ 4 = let e = ap length (c .successors-successors .ensures) in let l = length-take (p .count) (p .successors) in let f = p .few in omega arith in
     let same : front access (length successors) ++ successors ≡ with-head 2 (access-bytes (p .access) ++ take (p .count) (p .successors)) =
-        fronted access successors (access-short access) four
-        ∙ ap (λ (a : Option ℕ). with-head 2 (access-bytes a ++ successors)) (c .access .ensures)
-        ∙ ap (λ (ss : List ℕ). with-head 2 (access-bytes (p .access) ++ ss)) (c .successors-successors .ensures) in
+    fronted access successors (access-short access) four
+    ∙ ap (λ (a : Option ℕ). with-head 2 (access-bytes a ++ successors)) (c .access .ensures)
+    ∙ ap (λ (ss : List ℕ). with-head 2 (access-bytes (p .access) ++ ss)) (c .successors-successors .ensures) in
     two-parts (front access (length successors)) successors _ before (c .put-access-at .last .out) (c .put .last .out) (c .put-access-at .result) (c .put .result) same (c .pre) (c .put-access-at .ensures) (c .put .ensures)

@@ -19,7 +19,7 @@ pub loop-point-again : need.loop-point-again
 loop-point-again c =
     let p = c .point-item .result in
     next-filled point-bytes (c .args .points .now) (c .loop-point .point-index) p (c .loop-point .at) (c .loop-point .out) (c .args .out .now) (c .loop-point-test .taken) (c .loop-point .inv .0) (c .loop-point .kept .out) (c .pre)
-      (c .put-point-at .result) (c .put-point-at .last .out) (filled-as _ _ _ _ _ (ap point-bytes (c .point-item .is)) (c .put-point-at .ensures))
+    (c .put-point-at .result) (c .put-point-at .last .out) (filled-as _ _ _ _ _ (ap point-bytes (c .point-item .is)) (c .put-point-at .ensures))
 
 pub returns : need.returns
 returns c =

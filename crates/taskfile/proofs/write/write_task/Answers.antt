@@ -36,10 +36,10 @@ returns c =
     let p = c .parameters .ensures in
     let q = c .parameters .result in
     let h : field-bytes (header (q .sets ∷ (q .ways ∷ four-bytes (q .reload)))) ≡ field-bytes (header-field t) =
-        ap (λ (n : ℕ). field-bytes (header (n ∷ (q .ways ∷ four-bytes (q .reload))))) (p .sets)
-        ∙ ap (λ (n : ℕ). field-bytes (header (t .sets ∷ (n ∷ four-bytes (q .reload))))) (p .ways)
-        ∙ ap (λ (n : ℕ). field-bytes (header (t .sets ∷ (t .ways ∷ four-bytes n)))) (p .reload) in
+    ap (λ (n : ℕ). field-bytes (header (n ∷ (q .ways ∷ four-bytes (q .reload))))) (p .sets)
+    ∙ ap (λ (n : ℕ). field-bytes (header (t .sets ∷ (n ∷ four-bytes (q .reload))))) (p .ways)
+    ∙ ap (λ (n : ℕ). field-bytes (header (t .sets ∷ (t .ways ∷ four-bytes n)))) (p .reload) in
     let fits : length (task-bytes t) ≤ length (c .args .out .now) = let e = c .file-size .ensures in omega (arith, c .if-out-file-size .left) in
     let all = two-parts (field-bytes (header-field t)) (joined field-bytes (fields-after-header t)) (task-bytes t) (c .args .out .now) (c .put-header-at .last .out) (c .put-fields .last .out) (c .put-header-at .result) (c .put-fields .result) refl fits
-        (filled-as _ _ _ _ _ h (c .put-header-at .ensures)) (c .put-fields .ensures) in
+    (filled-as _ _ _ _ _ h (c .put-header-at .ensures)) (c .put-fields .ensures) in
     record { answer = all; law = rereading-keeps-the-task; rereading-keeps-the-task = reread t (c .args .out .now) _ _ (p .legal) all }

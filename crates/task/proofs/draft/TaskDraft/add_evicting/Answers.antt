@@ -69,10 +69,11 @@ ghost-self c =
     let d = c .args .self .now in
     let b = c .args .block in
     let e = c .push-reserved .ensures .capacity in
-    let r = d .«evicting_room» in
-    ( ap (λ (bs : List ℕ). legal-draft (with-evicting (draft-contents d) bs)) (c .push-reserved .ensures .items)
-      ∙ evicting-added (draft-contents d) b (d .legal) (followed d b _ true (c .deref .ensures .value) (c .if-not-may-follow .ensures tt)) (few d b (c .len .result) (c .if-len-eq-MAX-EVICTING .left) (c .len .ensures))
-    , (d .named, (d .«points_room», (d .«blocks_room», (omega arith, tt)))))
+    let r = d .«evicting_room» in (
+      ap (λ (bs : List ℕ). legal-draft (with-evicting (draft-contents d) bs)) (c .push-reserved .ensures .items)
+          ∙ evicting-added (draft-contents d) b (d .legal) (followed d b _ true (c .deref .ensures .value) (c .if-not-may-follow .ensures tt)) (few d b (c .len .result) (c .if-len-eq-MAX-EVICTING .left) (c .len .ensures)),
+      (d .named, (d .«points_room», (d .«blocks_room», (omega arith, tt)))),
+    )
 
 pub returns : need.returns
 returns c =

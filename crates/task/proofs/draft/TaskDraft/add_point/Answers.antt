@@ -86,11 +86,14 @@ ghost-self-2 c =
     let p = c .args .point in
     let added = pushed d p (vec-items (c .push-reserved .last .self)) (c .push-reserved .ensures .items) in
     let ok = few d p _ _ (c .access .ensures) (c .len .ensures) (c .if-len-eq-MAX-POINTS .left) (c .if-not-note-access .ensures tt .test) in
-    let more = c .if-not-note-access .ensures tt in
-    ( ap (λ (ps : List PointContents). legal-draft (with-points (draft-contents d) ps)) added ∙ point-added (draft-contents d) (point-contents p) (d .legal) (p .legal) ok
-    , ( more .after ∙ ap (noted (vec-items (d .blocks))) (c .access .ensures) ∙ ap (λ (bs : List ℕ). noted bs (p .access)) (d .named)
-        ∙ sym (noted-push [] (draft-contents d .points) (point-contents p)) ∙ sym (ap distinct-blocks added)
-      , (let e = c .push-reserved .ensures .capacity in let r = d .«points_room» in omega arith, (let e = more .capacity in let r = d .«blocks_room» in omega arith, (d .«evicting_room», tt)))))
+    let more = c .if-not-note-access .ensures tt in (
+      ap (λ (ps : List PointContents). legal-draft (with-points (draft-contents d) ps)) added ∙ point-added (draft-contents d) (point-contents p) (d .legal) (p .legal) ok,
+      (
+        more .after ∙ ap (noted (vec-items (d .blocks))) (c .access .ensures) ∙ ap (λ (bs : List ℕ). noted bs (p .access)) (d .named)
+            ∙ sym (noted-push [] (draft-contents d .points) (point-contents p)) ∙ sym (ap distinct-blocks added),
+        (let e = c .push-reserved .ensures .capacity in let r = d .«points_room» in omega arith, (let e = more .capacity in let r = d .«blocks_room» in omega arith, (d .«evicting_room», tt))),
+      ),
+    )
 
 pub returns : need.returns
 returns c =

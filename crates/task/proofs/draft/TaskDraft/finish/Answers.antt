@@ -40,11 +40,13 @@ ghost-result c =
     (and-from _ _ (some-point _ _ (c .points .ensures) (c .if-is-empty .ensures tt)) closed, tt)
 
 pub returns-in-None : need.returns-in-None
-returns-in-None c =
-    ( cond-true _ _ no-point (some-point _ _ (c .points .ensures) (c .if-is-empty .ensures tt)) ∙ ap closing (sym (c .in-None .ensures tt ∙ ap first-open (c .points-2 .ensures)))
-    , refl )
+returns-in-None c = (
+  cond-true _ _ no-point (some-point _ _ (c .points .ensures) (c .if-is-empty .ensures tt)) ∙ ap closing (sym (c .in-None .ensures tt ∙ ap first-open (c .points-2 .ensures))),
+  refl,
+)
 
 pub returns-in-Some : need.returns-in-Some
-returns-in-Some c =
-    ( cond-true _ _ no-point (some-point _ _ (c .points .ensures) (c .if-is-empty .ensures tt)) ∙ ap closing (sym (c .in-Some .ensures tt ∙ ap first-open (c .points-2 .ensures)))
-    , refl )
+returns-in-Some c = (
+  cond-true _ _ no-point (some-point _ _ (c .points .ensures) (c .if-is-empty .ensures tt)) ∙ ap closing (sym (c .in-Some .ensures tt ∙ ap first-open (c .points-2 .ensures))),
+  refl,
+)
