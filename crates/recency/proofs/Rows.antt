@@ -5,11 +5,11 @@ use mathlib.Core.List.{List, [], _∷_}
 use Prim.Native.Nat.{ℕ, zero, suc, _+_, _%_, _≤_, _<_}
 use native.Mathlib.Omega.{arith}
 use native.Mathlib.Nat.{mod-lt}
-use lib.Dec.{eqb}
+use lib.Dec.{eqb, leb}
 use lib.ListN.{length, getD, set, replicate}
 use Rattle.std.proofs.shelf.Lists.{getD-set-same, getD-set-other}
-use Rattle.std.proofs.shelf.Tests.{and-parts, and-from, eqb-true, eq-eqb, le-leb}
-use Rattle.recency.specs.Blocks.{has, set-of}
+use Rattle.std.proofs.shelf.Tests.{and-parts, and-from, eqb-true, eq-eqb, le-leb, leb-true}
+use Rattle.recency.specs.Blocks.{has, distinct, of-set, set-of}
 use Rattle.recency.specs.Recency.{lru-step}
 use Rattle.recency.specs.Rows.{is-list, lists-from, is-row, empty-row, list-of, row-step}
 use Rattle.recency.proofs.Steps.{step-is-list, step-has}
@@ -55,10 +55,18 @@ module _ (sets w : ℕ) where
     pub list-is-list : is-list sets w (set-of sets b) (list-of sets b row) ≡ true
     list-is-list = let e : 0 + set-of sets b ≡ set-of sets b = omega arith in sym (ap (λ n. is-list sets w n (list-of sets b row)) e) ∙ lists-at 0 (set-of sets b) row set-within h
 
+    pub list-short : length (list-of sets b row) ≤ w
+    list-short =
+        let l = list-of sets b row in
+        let p = and-parts (distinct l) (of-set sets (set-of sets b) l && leb (length l) w) list-is-list in
+        leb-true (length l) w (and-parts (of-set sets (set-of sets b) l) (leb (length l) w) (p .1) .1)
+
+    -- another list of the same set in its place
+    pub set-is-row : (l : List ℕ) → is-list sets w (set-of sets b) l ≡ true → is-row sets w (set row (set-of sets b) l) ≡ true
+    set-is-row l k = let e : 0 + set-of sets b ≡ set-of sets b = omega arith in lists-set 0 (set-of sets b) row l (ap (λ n. is-list sets w n l) e ∙ k) h
+
     pub step-is-row : is-row sets w (row-step sets w b row) ≡ true
-    step-is-row =
-        let e : 0 + set-of sets b ≡ set-of sets b = omega arith in
-        lists-set 0 (set-of sets b) row (lru-step w b (list-of sets b row)) (ap (λ n. is-list sets w n (lru-step w b (list-of sets b row))) e ∙ step-is-list w b (list-of sets b row) sets (set-of sets b) refl list-is-list) h
+    step-is-row = set-is-row (lru-step w b (list-of sets b row)) (step-is-list w b (list-of sets b row) sets (set-of sets b) refl list-is-list)
 
     -- the block of an access is in its list
     pub step-has-block : 1 ≤ w → has b (list-of sets b (row-step sets w b row)) ≡ true

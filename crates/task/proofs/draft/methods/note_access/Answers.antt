@@ -13,7 +13,8 @@ use Rattle.std.proofs.shelf.Lists.{length-push}
 use Rattle.std.proofs.shelf.Tests.{le-leb, lt-leb}
 use Rattle.task.specs.Blocks.{noted}
 use Rattle.recency.specs.Blocks.{has}
-use Rattle.task.proofs.Noting.{has-contained, noted-old, noted-new}
+use Rattle.recency.proofs.Contained.{has-contained}
+use Rattle.task.proofs.Noting.{noted-old, noted-new}
 use Rattle.task.proofs.draft.methods.note_access.Needs as need
 
 -- how long the list is with the access noted

@@ -1,0 +1,6 @@
+mod Sizes
+mod Shift
+mod Tables
+mod FifoSteps
+mod Runs
+mod Examples

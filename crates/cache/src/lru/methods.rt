@@ -1,0 +1,64 @@
+ghost use mathlib.Core.Path.{_≡_};
+ghost use Rattle.std.specs.declared.option.Option.the-variants.{None, Some};
+ghost use Rattle.std.specs.declared.result.Result.the-variants.{Err, Ok};
+ghost use Rattle.recency.specs.Blocks.{has};
+ghost use Rattle.recency.specs.Rows.{empty-row, list-of, row-step};
+ghost use Rattle.cache.specs.LruState.{LruVouches, lru-row};
+ghost use Rattle.cache.specs.Outcomes.{outcome-of};
+ghost use Rattle.cache.specs.Sizes.{legal-ways, refusal};
+use crate::Cache;
+use crate::block_list::BlockList;
+use crate::fault::CacheFault;
+use crate::lru::Lru;
+use crate::outcome::Outcome;
+use crate::size::check_size;
+
+impl Lru {
+    // An empty cache.
+    pub fn new(sets: u8, ways: u8) -> Result<Lru, CacheFault>
+        ensures { λ r. ⌜ elim r [ Ok c ↦ (refusal legal-ways sets ways ≡ None) × (c .sets ≡ sets) × (c .ways ≡ ways) × (lru-row c ≡ empty-row sets) | Err e ↦ refusal legal-ways sets ways ≡ Some e ] ⌝ }
+    {
+        check_size(sets, ways)?;
+        Ok(Lru {
+            sets,
+            ways,
+            lists: [BlockList::new(); 64],
+        })
+    }
+
+    // Makes the block the most recently used one of its set.
+    pub fn load(&mut self, block: u32) -> Outcome
+        ensures hit { λ r. ⌜ r ≡ outcome-of (has block (list-of (now (self .entry) .sets) block (lru-row (now (self .entry))))) ⌝ }
+        ensures moved { λ _. ⌜ lru-row (now (self .exit)) ≡ row-step (now (self .entry) .sets) (now (self .entry) .ways) block (lru-row (now (self .entry))) ⌝ }
+        ensures sets { λ _. ⌜ now (self .exit) .sets ≡ now (self .entry) .sets ⌝ }
+        ensures ways { λ _. ⌜ now (self .exit) .ways ≡ now (self .entry) .ways ⌝ }
+    {
+        let set = (block % self.sets as u32) as usize;
+        let mut list = self.lists[set];
+        let hit = list.touch(self.ways, block);
+        self.lists[set] = list;
+        Outcome::from_hit(hit)
+    }
+}
+
+pub impl Cache for Lru as LruCache {
+    ghost sets = { λ c. c .sets };
+
+    ghost life = { λ c. c .ways };
+
+    ghost holds = { λ c b. has b (list-of (c .sets) b (lru-row c)) };
+
+    ghost vouches = { LruVouches };
+
+    fn sets(&self) -> u8 {
+        self.sets
+    }
+
+    fn life(&self) -> u8 {
+        self.ways
+    }
+
+    fn access(&mut self, block: u32) -> Outcome {
+        self.load(block)
+    }
+}
