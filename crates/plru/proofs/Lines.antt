@@ -11,13 +11,17 @@ use Rattle.std.proofs.shelf.Lists.{map-set, getD-take, getD-map, take-replicate
 use Rattle.std.proofs.shelf.Tests.{and-parts, and-from, leb-true, le-leb, cond-true}
 use Rattle.plru.specs.declared.set.PlruSet.{PlruSet}
 use Rattle.cache.specs.Outcomes.{outcome-of}
+use Rattle.cache.specs.Sizes.{refusal}
 use Rattle.cache.specs.declared.fault.CacheFault.{CacheFault}
+use Rattle.cache.specs.declared.fault.CacheFault.the-variants as faults
+use Rattle.std.specs.declared.option.Option.{Option}
+use Rattle.std.specs.declared.option.Option.the-variants.{Some, None}
 use Rattle.std.specs.declared.result.Result.{Result}
 use Rattle.std.specs.declared.result.Result.the-variants.{Ok}
 use Rattle.recency.specs.Blocks.{has}
 use Rattle.plru.specs.Tree.{is-tree}
 use Rattle.plru.specs.Sets.{SetState, empty-set, plru-step}
-use Rattle.plru.specs.Caches.{CacheState, cache-step, holds-block, new-cache}
+use Rattle.plru.specs.Caches.{CacheState, cache-step, holds-block, new-cache, unless-refused}
 use Rattle.plru.specs.Meaning.{state-of, all-fit}
 use Rattle.plru.proofs.Holding.{filled-length}
 use Rattle.plru.proofs.Steps.{step-few}
@@ -95,6 +99,7 @@ states-empty n m s h e = ap (take n) (map-replicate m s) ∙ take-replicate n m 
 
 pub new-made : (sets ways : ℕ) (ss : List SetState) → 1 ≤ sets → sets ≤ 64 → is-tree ways ≡ true → ss ≡ replicate sets empty-set → _≡_ {A = Result CacheState CacheFault} (Ok (record { sets = sets; ways = ways; states = ss })) (new-cache sets ways)
 new-made sets ways ss h k t e =
+    let fine : refusal is-tree sets ways ≡ None =
+        cond-true (leb 1 sets && leb sets 64) _ (Some faults.Sets) (and-from _ _ (le-leb 1 sets h) (le-leb sets 64 k)) ∙ cond-true (is-tree ways) None (Some faults.Ways) t in
     ap {B = Result CacheState CacheFault} (λ v. Ok (record { sets = sets; ways = ways; states = v })) e
-    ∙ sym (cond-true (is-tree ways) _ _ t)
-    ∙ sym (cond-true (leb 1 sets && leb sets 64) _ _ (and-from _ _ (le-leb 1 sets h) (le-leb sets 64 k)))
+    ∙ sym (ap (λ (o : Option CacheFault). unless-refused o (record { sets = sets; ways = ways; states = replicate sets empty-set })) fine)

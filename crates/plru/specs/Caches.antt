@@ -1,15 +1,16 @@
 -- A tree PLRU cache: its sets, in their order, and an access.
 use mathlib.Core.Path.{_≡_}
-use mathlib.Core.Bool.{Bool, true, cond, _&&_}
+use mathlib.Core.Bool.{Bool, true}
 use mathlib.Core.List.{List}
 use Prim.Native.Nat.{ℕ, suc}
-use lib.Dec.{leb}
 use lib.ListN.{getD, set, replicate}
 use Rattle.cache.specs.declared.fault.CacheFault.{CacheFault}
-use Rattle.cache.specs.declared.fault.CacheFault.the-variants as faults
+use Rattle.cache.specs.Sizes.{refusal}
 use Rattle.recency.specs.Blocks.{has, set-of}
 use Rattle.recency.specs.Paired.{Paired}
 use Rattle.recency.specs.Rows.{is-row}
+use Rattle.std.specs.declared.option.Option.{Option}
+use Rattle.std.specs.declared.option.Option.the-variants.{Some, None}
 use Rattle.std.specs.declared.result.Result.{Result}
 use Rattle.std.specs.declared.result.Result.the-variants.{Ok, Err}
 use Rattle.plru.specs.Tree.{is-tree, levels}
@@ -21,12 +22,13 @@ pub record CacheState : Type 0 where
   pub ways : ℕ
   pub states : List SetState
 
--- an empty cache, or why there is none
+abbrev pub unless-refused : Option CacheFault → CacheState → Result CacheState CacheFault
+unless-refused None c = Ok c
+unless-refused (Some e) c = Err e
+
+-- an empty cache, or why there is none: the sets are tested first
 abbrev pub new-cache : ℕ → ℕ → Result CacheState CacheFault
-new-cache sets ways =
-    cond (leb 1 sets && leb sets 64)
-    (cond (is-tree ways) (Ok (record { sets = sets; ways = ways; states = replicate sets empty-set })) (Err faults.Ways))
-    (Err faults.Sets)
+new-cache sets ways = unless-refused (refusal is-tree sets ways) (record { sets = sets; ways = ways; states = replicate sets empty-set })
 
 -- the set of a block
 abbrev pub state-for : ℕ → CacheState → SetState
