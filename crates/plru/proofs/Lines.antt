@@ -100,6 +100,6 @@ states-empty n m s h e = ap (take n) (map-replicate m s) ∙ take-replicate n m 
 pub new-made : (sets ways : ℕ) (ss : List SetState) → 1 ≤ sets → sets ≤ 64 → is-tree ways ≡ true → ss ≡ replicate sets empty-set → _≡_ {A = Result CacheState CacheFault} (Ok (record { sets = sets; ways = ways; states = ss })) (new-cache sets ways)
 new-made sets ways ss h k t e =
     let fine : refusal is-tree sets ways ≡ None =
-        cond-true (leb 1 sets && leb sets 64) _ (Some faults.Sets) (and-from _ _ (le-leb 1 sets h) (le-leb sets 64 k)) ∙ cond-true (is-tree ways) None (Some faults.Ways) t in
+    cond-true (leb 1 sets && leb sets 64) _ (Some faults.Sets) (and-from _ _ (le-leb 1 sets h) (le-leb sets 64 k)) ∙ cond-true (is-tree ways) None (Some faults.Ways) t in
     ap {B = Result CacheState CacheFault} (λ v. Ok (record { sets = sets; ways = ways; states = v })) e
     ∙ sym (ap (λ (o : Option CacheFault). unless-refused o (record { sets = sets; ways = ways; states = replicate sets empty-set })) fine)

@@ -1,0 +1,5 @@
+pub mod Kinds
+pub mod Graph
+pub mod Rounds
+pub mod Settled
+pub mod Answers
