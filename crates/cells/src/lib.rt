@@ -1,0 +1,1 @@
+// Rows made of cells, index for index, as definitions with their laws.

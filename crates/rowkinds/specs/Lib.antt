@@ -1,0 +1,2 @@
+pub mod Ages
+pub mod BlockSets
