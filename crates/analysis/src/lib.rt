@@ -1,4 +1,6 @@
 // The analysis of a task: how many loads one interruption at each point can make it repeat.
+#![tactic(auto)]
+
 mod sheet;
 
 ghost use Rattle.task.specs.Tasks.{contents};

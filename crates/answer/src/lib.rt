@@ -1,4 +1,6 @@
 // What the program answers for a file.
+#![tactic(auto)]
+
 pub mod sheet;
 
 ghost use Rattle.std.specs.Prelude.{◌≡◌, IfOk, string_bytes};

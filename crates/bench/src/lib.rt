@@ -1,4 +1,6 @@
 // A bench: replays runs of a task on a cache, with interruptions.
+#![tactic(auto)]
+
 mod actions;
 pub mod answer;
 mod bar;

@@ -1,4 +1,6 @@
 // Sets of block indices below 64.
+#![tactic(auto)]
+
 ghost use Rattle.std.specs.Prelude.{◌≡◌, ℕ, ◌<◌, ◌⊎◌, Decides};
 ghost use Rattle.blocksets.specs.Members.{Holds, Iff, joined, no_blocks, size, with_block};
 

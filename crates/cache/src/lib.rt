@@ -1,4 +1,6 @@
 // Caches behind one interface.
+#![tactic(auto)]
+
 mod block_list;
 pub mod fault;
 pub mod fifo;

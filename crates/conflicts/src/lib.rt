@@ -1,4 +1,6 @@
 // The rows of conflict sets that the analysis settles.
+#![tactic(auto)]
+
 mod kind;
 mod methods;
 

@@ -1,4 +1,6 @@
 // Reads a task file from standard input, and says what it holds or why it is refused.
+#![tactic(auto)]
+
 use anyhow::anyhow;
 use report::{refusal_line, summary_line};
 use std::env;

@@ -1,4 +1,6 @@
 // The fields layer of a task file: takes the bytes apart, field by field.
+#![tactic(auto)]
+
 mod tag;
 
 ghost use Rattle.std.specs.Prelude.{◌≡◌};

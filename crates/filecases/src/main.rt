@@ -1,5 +1,7 @@
 // Reads test cases for task files, a name and the bytes in hexadecimal on a line, and answers each on a line: the bytes
 // that an accepted file is written back as, or the refusal. The expected answers are in `stdout`.
+#![tactic(auto)]
+
 use anyhow::anyhow;
 use report::refusal_line;
 use std::alloc::{AllocError, Global};

@@ -1,4 +1,6 @@
 // Settles tables of rows over the points of a task.
+#![tactic(auto)]
+
 pub mod direction;
 pub mod fault;
 mod graph;

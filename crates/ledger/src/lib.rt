@@ -1,4 +1,5 @@
 // What a bench is asked, and what it counts.
+#![tactic(auto)]
 
 // Whether the task walks, is interrupted, or its run has ended.
 #[derive(Clone, Copy)]

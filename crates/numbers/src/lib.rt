@@ -1,4 +1,6 @@
 // The four numbers of a point.
+#![tactic(auto)]
+
 mod counts;
 mod risk;
 

@@ -1,5 +1,5 @@
 -- Paired lists, read and changed at one place. Assumes nothing.
-use Rattle.std.proofs.Common.{◌≡◌, ℕ, zero, suc, ◌<◌, ◌≤◌, List, [], ◌∷◌, length, get_or, set, replicate, refl, arith}
+use Rattle.std.proofs.Common.{◌≡◌, ℕ, zero, suc, ◌<◌, List, [], ◌∷◌, length, get_or, set, replicate, refl, arith}
 use Rattle.recency.specs.Paired.{Paired}
 
 module _ {A B : Type 0} (R : A → B → Type 0) where

@@ -1,5 +1,5 @@
 -- Rows of lists, one list for each cache set.
-use Rattle.std.specs.Prelude.{ℕ, suc, Bool, ◌&&◌, List, [], ◌∷◌, length, set, replicate, ◌==◌, nat_le, slice_index_or, slice_set}
+use Rattle.std.specs.Prelude.{ℕ, suc, Bool, ◌&&◌, List, [], ◌∷◌, length, replicate, ◌==◌, nat_le, slice_index_or, slice_set}
 use Rattle.recency.specs.Blocks.{distinct, of_set, set_of}
 use Rattle.recency.specs.Recency.{lru_step}
 

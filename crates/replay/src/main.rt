@@ -1,4 +1,6 @@
 // Reads a run from standard input, a task, a cache and calls, and prints what each call said.
+#![tactic(auto)]
+
 use anyhow::anyhow;
 use cache::Cache;
 use cache::fault::CacheFault;

@@ -1,4 +1,6 @@
 // Replays a list of calls on a new bench.
+#![tactic(auto)]
+
 mod play;
 
 pub use self::play::replay;

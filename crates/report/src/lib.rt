@@ -1,4 +1,6 @@
 // The lines that the program prints.
+#![tactic(auto)]
+
 ghost use Rattle.std.specs.Prelude.{◌≡◌, IfOk, string_bytes};
 ghost use Rattle.task.specs.Tasks.{contents};
 ghost use Rattle.report.specs.Texts.{placed_text, refusal_text, summary_text};

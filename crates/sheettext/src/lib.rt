@@ -1,4 +1,6 @@
 // The text for an analysed task.
+#![tactic(auto)]
+
 ghost use Rattle.std.specs.Prelude.{◌≡◌, IfOk, string_bytes};
 ghost use Rattle.sheettext.specs.Sheets.{analysis_text, point_text};
 

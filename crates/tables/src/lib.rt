@@ -1,4 +1,6 @@
 // The four settled tables of a task, and the numbers that they give each point.
+#![tactic(auto)]
+
 mod methods;
 mod notes;
 mod settle;

@@ -1,4 +1,6 @@
 // A task: the cache that it runs on, its points, and the blocks of what may interrupt it.
+#![tactic(auto)]
+
 pub mod draft;
 pub mod faults;
 pub mod parameters;

@@ -1,4 +1,6 @@
 // Task files: reads one into a task, and writes one into a buffer.
+#![tactic(auto)]
+
 pub mod fault;
 mod read;
 mod sizes;
