@@ -21,17 +21,17 @@ fill-requires c =
     let n = sym (length-map c.points-n.result.now point_contents) ∙ ap length c.points-n.ensures in
     record {
       room = omega (arith, n, c.if-sheet-n.false);
-      settled = settled_room t (rows_of c.args.tables.now) (rows_of c.settle.new.self) c.in-ok-rounds.rounds c.in-ok-rounds.ensures.answer;
+      settled = settled_room t (rows_of c.args.tables.now) (rows_of c.settle.new.self) c.in_ok-rounds.rounds c.in_ok-rounds.ensures.answer;
     }
 
 pub returns : goal.returns
 returns c =
     let t = contents c.args.task.now in
     let n = sym (length-map c.points-n.result.now point_contents) ∙ ap length c.points-n.ensures in
-    let all = c.in-ok-rounds.ensures.answer in
-    let records = c.fill.ensures.records ∙ settled_sheet t (rows_of c.args.tables.now) (rows_of c.settle.new.self) c.in-ok-rounds.rounds all in
+    let all = c.in_ok-rounds.ensures.answer in
+    let records = c.fill.ensures.records ∙ settled_sheet t (rows_of c.args.tables.now) (rows_of c.settle.new.self) c.in_ok-rounds.rounds all in
     let k : length c.points-n.result.now - 0 ≡ length t.points = omega (arith, n) in
-    let most : c.largest-of-largest.result ≡ largest (take (length c.points-n.result.now - 0) c.fill.new.sheet) = c.largest-of-largest.ensures in
+    let most : c.largest_of-largest.result ≡ largest (take (length c.points-n.result.now - 0) c.fill.new.sheet) = c.largest_of-largest.ensures in
     record {
       answer = record {
         tables = all;

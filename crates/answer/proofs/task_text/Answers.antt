@@ -7,8 +7,8 @@ use Rattle.analysis.specs.Sheets.{largest, sheet}
 use Rattle.sheettext.specs.Sheets.{analysis_text}
 use Rattle.answer.proofs.task_text.Goals as goal
 
-pub slice-bounds-analysis-text-end : goal.slice-bounds-analysis-text-end
-slice-bounds-analysis-text-end c =
+pub slice-bounds-analysis_text-end : goal.slice-bounds-analysis_text-end
+slice-bounds-analysis_text-end c =
     let t = contents c.args.task.now in
     let n = sym (length-map c.points-n.result.now point_contents) ∙ ap length c.points-n.ensures in
     let few = (kept t c.args.task.now.draft.legal).points_few in

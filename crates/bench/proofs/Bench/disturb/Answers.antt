@@ -15,7 +15,7 @@ returns-in-default g c =
     let m = g.C.Cache in
     let s = c.args.self.now in
     let b = c.args.block in
-    let has_not : has b (setting_of s).task.evicting ≡ false = not_found b 0 (setting_of s).task.evicting (sym c.evicting-index.ensures ∙ c.in-default.is) in
+    let has_not : has b (setting_of s).task.evicting ≡ false = not_found b 0 (setting_of s).task.evicting (sym c.evicting_index.ensures ∙ c.in-default.is) in
     record {
       called =
           called_from m.sets m.life m.holds m.vouches (setting_of s) (Touch b) s.cache (ledger_in s) (Err NotEvicting) s.cache (ledger_in s) (Some 20)
@@ -30,7 +30,7 @@ returns g c =
     let s = c.args.self.now in
     let b = c.args.block in
     let a = c.access.ensures in
-    let has_it : has b (setting_of s).task.evicting ≡ true = found b 0 (setting_of s).task.evicting c.in-Some.field-0 (sym c.evicting-index.ensures ∙ c.in-Some.is) in
+    let has_it : has b (setting_of s).task.evicting ≡ true = found b 0 (setting_of s).task.evicting c.in-Some.field-0 (sym c.evicting_index.ensures ∙ c.in-Some.is) in
     record {
       called =
           called_from m.sets m.life m.holds m.vouches (setting_of s) (Touch b) s.cache (ledger_in s) (Ok (Access c.access.result)) c.access.new.self (ledger_in s) None

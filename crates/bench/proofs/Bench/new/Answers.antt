@@ -12,8 +12,8 @@ pub invariant-of-result : goal.invariant-of-result
 invariant-of-result g c =
     let t = contents c.args.task.now in
     let some : 1 ≤ length t.points = leb-true _ _ (and_parts _ _ c.args.task.now.complete).0 in
-    let k = c.kept-numbers-resilient.ensures in
-    let l = c.empty-lists.ensures in
+    let k = c.kept_numbers-resilient.ensures in
+    let l = c.empty_lists.ensures in
     (omega arith, (k.room, (k.knows, (omega arith, (omega arith, (omega arith, (omega arith, (omega arith, (l.sets, (l.ways, tt))))))))))
 
 pub returns : goal.returns
@@ -24,8 +24,8 @@ returns g c =
     let room : c.len-room.result ≡ shortest (rows_of c.args.tables.now) = c.len-room.ensures in
     let sets : c.sets-sets.result ≡ m.sets x = c.sets-sets.ensures in
     let life : c.life-life.result ≡ m.life x = c.life-life.ensures in
-    let k = c.kept-numbers-resilient.ensures in
-    let ledger = ap (ledger_with Walking 0 (counts_of 0 0 0 0 0)) c.empty-lists.ensures.empty in
+    let k = c.kept_numbers-resilient.ensures in
+    let ledger = ap (ledger_with Walking 0 (counts_of 0 0 0 0 0)) c.empty_lists.ensures.empty in
     record {
       setting = λ i. setting_with t (room i) (sets i) (life i);
       ledger = ledger;

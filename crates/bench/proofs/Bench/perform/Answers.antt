@@ -14,7 +14,7 @@ returns-in-default g c =
     let m = g.C.Cache in
     let s = c.args.self.now in
     let ps = (setting_of s).task.points in
-    let e : access_at ps s.point ≡ None = sym (access_of_point ps s.point) ∙ ap (λ p. p.access) (sym c.point-at.ensures) ∙ sym c.access.ensures ∙ c.in-default.is in
+    let e : access_at ps s.point ≡ None = sym (access_of_point ps s.point) ∙ ap (λ p. p.access) (sym c.point_at.ensures) ∙ sym c.access.ensures ∙ c.in-default.is in
     record {
       says = ap (answer_of (m.holds s.cache) NoAccess) (sym e);
       counts = stepped_quietly (setting_of s) (ledger_in s) e false s.state s.point;
@@ -28,7 +28,7 @@ returns g c =
     let s = c.args.self.now in
     let ps = (setting_of s).task.points in
     let b = c.in-Some.block in
-    let e : access_at ps s.point ≡ Some b = sym (access_of_point ps s.point) ∙ ap (λ p. p.access) (sym c.point-at.ensures) ∙ sym c.access.ensures ∙ c.in-Some.is in
+    let e : access_at ps s.point ≡ Some b = sym (access_of_point ps s.point) ∙ ap (λ p. p.access) (sym c.point_at.ensures) ∙ sym c.access.ensures ∙ c.in-Some.is in
     let a = c.access-outcome.ensures in
     let p = c.load.ensures in
     let d = c.access-outcome.new.self in

@@ -6,18 +6,18 @@ use Rattle.bench.specs.Keeping.{setting_with}
 use Rattle.bench.proofs.Barring.{open_room}
 use Rattle.bench.proofs.numbers.kept_numbers.Goals as goal
 
-pub settled-numbers-requires : goal.settled-numbers-requires
-settled-numbers-requires c =
+pub settled_numbers-requires : goal.settled_numbers-requires
+settled_numbers-requires c =
     let free = c.in-None.ensures in
     omega (arith, c.requires, open_room (setting_with (contents c.args.task.now) c.args.room c.args.sets c.args.life) (cc))
 
 pub returns-in-None : goal.returns-in-None
 returns-in-None c =
-    let e = c.settled-numbers.ensures in
+    let e = c.settled_numbers.ensures in
     record {
       room = e.room;
       knows = λ _. e.numbers;
-      tables = subst (λ o. BuiltWhere o (contents c.args.task.now) (rows_of c.args.tables.now) (rows_of c.settled-numbers.new.tables)) c.in-None.ensures e.settled;
+      tables = subst (λ o. BuiltWhere o (contents c.args.task.now) (rows_of c.args.tables.now) (rows_of c.settled_numbers.new.tables)) c.in-None.ensures e.settled;
       lent = e.lent;
     }
 

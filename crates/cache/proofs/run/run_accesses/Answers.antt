@@ -62,5 +62,5 @@ returns g c =
       moves = moves;
       vouched = moves (empty_row (g.C.Cache.sets c.args.cache.now)) start;
       bounded = bounded;
-      bounded-from-empty = bounded (empty_row (g.C.Cache.sets c.args.cache.now)) start;
+      bounded_from_empty = bounded (empty_row (g.C.Cache.sets c.args.cache.now)) start;
     }

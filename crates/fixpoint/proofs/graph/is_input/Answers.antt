@@ -23,5 +23,5 @@ returns-in-Forward c =
 pub returns-in-Backward : goal.returns-in-Backward
 returns-in-Backward c =
     let ps = c.args.points.now in
-    c.leads-to-in-Backward.ensures ∙ read ps c.args.p c.args.q c.index-points-p.result c.requires.0 c.index-points-p.is
+    c.leads_to-in-Backward.ensures ∙ read ps c.args.p c.args.q c.index-points-p.result c.requires.0 c.index-points-p.is
     ∙ ap (λ (d : Direction). is_input d (all_contents ps) c.args.p c.args.q) (sym c.in-Backward.is)

@@ -14,8 +14,8 @@ loop-k-preserved g c =
     let M = g.K.RowKind.meaning c.args.kind.now in
     let J = job_of c.args.direction (all_contents c.args.points.now) c.args.notes.now in
     let n = length-map c.args.points.now point_contents in
-    along_more M J (turned c.args.direction _) c.args.rows.now c.loop-k.rows c.loop-k.k c.visited-at-p.result c.loop-k.changed c.same-kept.result c.gather-new.result _
-    (c.requires.filled ∙ sym n) (omega arith) c.loop-k.invariant (c.visited-at-p.ensures.value ∙ ap (λ m. visited_at c.args.direction m c.loop-k.k) (sym n)) c.gather-new.ensures
+    along_more M J (turned c.args.direction _) c.args.rows.now c.loop-k.rows c.loop-k.k c.visited_at-p.result c.loop-k.changed c.same-kept.result c.gather-new.result _
+    (c.requires.filled ∙ sym n) (omega arith) c.loop-k.invariant (c.visited_at-p.ensures.value ∙ ap (λ m. visited_at c.args.direction m c.loop-k.k) (sym n)) c.gather-new.ensures
     c.same-kept.ensures.0 c.same-kept.ensures.1
 
 pub returns : goal.returns

@@ -16,17 +16,17 @@ loop-round-init g c =
       λ k l e. omega arith,
     )
 
-pub returns-then-not-go-round : goal.returns-then-not-go-round
-returns-then-not-go-round g c =
+pub returns-then-not-go_round : goal.returns-then-not-go_round
+returns-then-not-go_round g c =
     let M = g.K.RowKind.meaning c.args.kind.now in
     let J = job_of c.args.direction (all_contents c.args.points.now) c.args.notes.now in
     let done = c.loop-round.round - 1 in
-    let went : c.go-round.new.rows ≡ after_rounds M J (suc done) = c.go-round.ensures.table ∙ ap (round M J) c.loop-round.invariant.0 ∙ sym (after_rounds_more M J done) in
-    let idle : after_rounds M J (suc done) ≡ after_rounds M J done = sym went ∙ c.go-round.ensures.idle c.if-not-go-round.true ∙ c.loop-round.invariant.0 in
+    let went : c.go_round.new.rows ≡ after_rounds M J (suc done) = c.go_round.ensures.table ∙ ap (round M J) c.loop-round.invariant.0 ∙ sym (after_rounds_more M J done) in
+    let idle : after_rounds M J (suc done) ≡ after_rounds M J done = sym went ∙ c.go_round.ensures.idle c.if-not-go_round.true ∙ c.loop-round.invariant.0 in
     let e : suc done ≡ c.loop-round.round = omega arith in
     record {
       value = went ∙ ap (after_rounds M J) e;
-      settled = λ own. subst (λ (r : ℕ). Settled M J r c.go-round.new.rows) e (settled M (g.met.K.RowKind.lawful c.args.kind.now) J own done c.go-round.new.rows c.loop-round.invariant.1 went idle);
+      settled = λ own. subst (λ (r : ℕ). Settled M J r c.go_round.new.rows) e (settled M (g.met.K.RowKind.lawful c.args.kind.now) J own done c.go_round.new.rows c.loop-round.invariant.1 went idle);
     }
 
 pub loop-round-preserved : goal.loop-round-preserved
@@ -34,18 +34,18 @@ loop-round-preserved g c =
     let M = g.K.RowKind.meaning c.args.kind.now in
     let J = job_of c.args.direction (all_contents c.args.points.now) c.args.notes.now in
     let done = c.loop-round.round - 1 in
-    let went : c.go-round.new.rows ≡ after_rounds M J (suc done) = c.go-round.ensures.table ∙ ap (round M J) c.loop-round.invariant.0 ∙ sym (after_rounds_more M J done) in
-    let moving : Moving M J (done + 1) = moving_more M J done c.loop-round.invariant.1 (λ e. c.go-round.ensures.moved c.if-not-go-round.false (went ∙ e ∙ sym c.loop-round.invariant.0)) in
+    let went : c.go_round.new.rows ≡ after_rounds M J (suc done) = c.go_round.ensures.table ∙ ap (round M J) c.loop-round.invariant.0 ∙ sym (after_rounds_more M J done) in
+    let moving : Moving M J (done + 1) = moving_more M J done c.loop-round.invariant.1 (λ e. c.go_round.ensures.moved c.if-not-go_round.false (went ∙ e ∙ sym c.loop-round.invariant.0)) in
     (went ∙ ap (after_rounds M J) (omega arith), subst (Moving M J) (omega arith) moving)
 
 -- with own notes the rounds do not run out: each of them would have changed something
-pub returns-else-not-go-round : goal.returns-else-not-go-round
-returns-else-not-go-round g c =
+pub returns-else-not-go_round : goal.returns-else-not-go_round
+returns-else-not-go_round g c =
     let M = g.K.RowKind.meaning c.args.kind.now in
     let J = job_of c.args.direction (all_contents c.args.points.now) c.args.notes.now in
     let done = c.loop-round.round - 1 in
-    let went : c.go-round.new.rows ≡ after_rounds M J (suc done) = c.go-round.ensures.table ∙ ap (round M J) c.loop-round.invariant.0 ∙ sym (after_rounds_more M J done) in
-    let moving : Moving M J (done + 1) = moving_more M J done c.loop-round.invariant.1 (λ e. c.go-round.ensures.moved c.if-not-go-round.false (went ∙ e ∙ sym c.loop-round.invariant.0)) in
+    let went : c.go_round.new.rows ≡ after_rounds M J (suc done) = c.go_round.ensures.table ∙ ap (round M J) c.loop-round.invariant.0 ∙ sym (after_rounds_more M J done) in
+    let moving : Moving M J (done + 1) = moving_more M J done c.loop-round.invariant.1 (λ e. c.go_round.ensures.moved c.if-not-go_round.false (went ∙ e ∙ sym c.loop-round.invariant.0)) in
     let most : size J * M.height ≡ length c.args.points.now * c.height.result = ap (λ (n : ℕ). n * M.height) (length-map c.args.points.now point_contents) ∙ ap (λ (h : ℕ). length c.args.points.now * h) (sym c.height.ensures) in
     record {
       value = went ∙ ap (after_rounds M J) (omega arith);

@@ -10,7 +10,7 @@ use Rattle.numbers.proofs.counts.evicting_in_sets.Goals as goal
 pub loop-block-init : goal.loop-block-init
 loop-block-init c = counted_start (is_evicting_in (contents c.args.task.now))
 
-inside : (c : goal.After-set-of) → c.set_of.result < 64
+inside : (c : goal.After-set_of) → c.set_of.result < 64
 inside c =
     let w = set_within (contents c.args.task.now) (get_or c.evicting-block-items.result.now c.loop-block.block-index 0) (limits _ c.parameters-limits.ensures.legal) in
     omega arith

@@ -7,7 +7,7 @@ use Rattle.numbers.specs.Numbers.{is_useful_in, useful}
 use Rattle.numbers.proofs.Counting.{counted_start, counted_all, count_within, block_counted, block_left}
 use Rattle.numbers.proofs.Limits.{limits, set_within}
 use Rattle.numbers.proofs.counts.useful_in_sets.Goals as goal
-use Rattle.numbers.proofs.counts.useful_in_sets.Goals.{then-is-useful, else-is-useful}
+use Rattle.numbers.proofs.counts.useful_in_sets.Goals.{then-is_useful, else-is_useful}
 
 pub loop-i-init : goal.loop-i-init
 loop-i-init c = counted_start (is_useful_in (contents c.args.task.now) c.args.ages.now c.args.reuses.now)
@@ -19,17 +19,17 @@ loop-i-preserved c =
     let blocks = distinct_blocks t.points in
     let pass = useful t.ways c.args.ages.now c.args.reuses.now in
     let test = is_useful_in t c.args.ages.now c.args.reuses.now in
-    let tests : c.is-useful.result ≡ pass i =
-    c.is-useful.ensures ∙ ap (λ (n : ℕ). useful n c.args.ages.now c.args.reuses.now i) c.parameters-ways.ensures.ways in
-    elim c.if-is-useful.branch [
-      | then-is-useful w ↦
+    let tests : c.is_useful.result ≡ pass i =
+    c.is_useful.ensures ∙ ap (λ (n : ℕ). useful n c.args.ages.now c.args.reuses.now i) c.parameters-ways.ensures.ways in
+    elim c.if-is_useful.branch [
+      | then-is_useful w ↦
           let home : w.set_of.result ≡ set_of t.sets (get_or blocks i 0) = w.set_of.ensures ∙ ap (λ (bs : List ℕ). set_of t.sets (get_or bs i 0)) c.blocks-b-items.ensures.value in
           let within = set_within t (get_or blocks i 0) (limits t c.parameters-ways.ensures.legal) in
           subst (λ (xs : List ℕ). Counted xs test (i + 1)) (sym w.counts-is)
-          (block_counted t.sets blocks c.loop-i.counts (λ _. pass) i c.loop-i.invariant w.set_of.result (omega arith) home (sym tests ∙ w.if-is-useful.true))
-      | else-is-useful w ↦
+          (block_counted t.sets blocks c.loop-i.counts (λ _. pass) i c.loop-i.invariant w.set_of.result (omega arith) home (sym tests ∙ w.if-is_useful.true))
+      | else-is_useful w ↦
           subst (λ (xs : List ℕ). Counted xs test (i + 1)) (sym w.counts-is)
-          (block_left t.sets blocks c.loop-i.counts (λ _. pass) i c.loop-i.invariant (set_of t.sets (get_or blocks i 0)) refl (sym tests ∙ w.if-is-useful.false))
+          (block_left t.sets blocks c.loop-i.counts (λ _. pass) i c.loop-i.invariant (set_of t.sets (get_or blocks i 0)) refl (sym tests ∙ w.if-is_useful.false))
     ]
 
 pub overflow-add-counts : goal.overflow-add-counts

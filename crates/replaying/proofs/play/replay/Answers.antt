@@ -25,7 +25,7 @@ loop-call-preserved g c =
     let said = c.call-answer.ensures in
     let one = along_more m.sets m.life m.holds m.vouches (setting_of first) first.cache (take i calls) (vec_items c.loop-call.played) b.cache (ledger_in b) (setting_of b) call x d.cache (ledger_in d) (setting_of d) c.loop-call.invariant said.called c.read-counts.ensures said.setting said.explained said.bounded in
     subst (λ (ks : List Call). Along m.sets m.life m.holds m.vouches (setting_of first) first.cache ks (vec_items c.push.new.self) d.cache (ledger_in d) (setting_of d)) (sym (take_more calls i (Step 0) c.loop-call-test.true))
-    (subst (λ (xs : List Played). Along m.sets m.life m.holds m.vouches (setting_of first) first.cache (take i calls ++ (call ∷ [])) xs d.cache (ledger_in d) (setting_of d)) (sym c.in-ok-push.ensures.items) one)
+    (subst (λ (xs : List Played). Along m.sets m.life m.holds m.vouches (setting_of first) first.cache (take i calls ++ (call ∷ [])) xs d.cache (ledger_in d) (setting_of d)) (sym c.in_ok-push.ensures.items) one)
 
 pub returns : goal.returns
 returns g c =

@@ -1,7 +1,7 @@
 use Rattle.std.proofs.Common.{◌≡◌, ℕ, ◌+◌, ◌<◌, List, get_or, vec_items, Option, sym, ap, ◌∙◌, arith}
 use Rattle.runtext.proofs.HexSteps.{Reads, blank_more, digit_small, first_more, half_ends, held_small, other_ends, second_more, whole_ends}
 use Rattle.runtext.proofs.hex.bytes_from_hex.Goals as goal
-use Rattle.runtext.proofs.hex.bytes_from_hex.Goals.{in-None, in-Some-high+in-ok-push}
+use Rattle.runtext.proofs.hex.bytes_from_hex.Goals.{in-None, in-Some-high+in_ok-push}
 
 reads_as : (text bs bs' : List ℕ) (held held' : Option ℕ) (i : ℕ) → bs' ≡ bs → held' ≡ held → Reads text bs held i → Reads text bs' held' i
 reads_as text bs bs' held held' i b h so_far = rw (b, h) so_far
@@ -13,7 +13,7 @@ loop-c-preserved-then-c-eq32 c =
 pub overflow-add-first : goal.overflow-add-first
 overflow-add-first c =
     let first : c.in-Some-high.first < 16 = held_small c.args.hex.now _ c.loop-c.c-index _ c.loop-c.invariant _ c.in-Some-high.is in
-    let digit : c.in-Some.digit < 16 = digit_small (get_or c.args.hex.now c.loop-c.c-index 0) _ (sym c.digit-from.ensures ∙ c.in-Some.is) in
+    let digit : c.in-Some.digit < 16 = digit_small (get_or c.args.hex.now c.loop-c.c-index 0) _ (sym c.digit_from.ensures ∙ c.in-Some.is) in
     omega arith
 
 pub loop-c-preserved : goal.loop-c-preserved
@@ -21,19 +21,19 @@ loop-c-preserved c =
     let text = c.args.hex.now in
     let i = c.loop-c.c-index in
     let bytes = vec_items c.loop-c.bytes in
-    let is = sym c.digit-from.ensures ∙ c.in-Some.is in
+    let is = sym c.digit_from.ensures ∙ c.in-Some.is in
     elim c.match-high.branch [
       | in-None w ↦
           reads_as text bytes _ _ _ (i + 1) (ap vec_items w.bytes-is) w.high-is
           (first_more text bytes i _ c.loop-c.invariant c.in-Some.digit c.loop-c-test.true c.if-c-eq32.false is w.in-None.is)
-      | in-Some-high+in-ok-push w ↦
-          reads_as text _ _ _ _ (i + 1) (ap vec_items w.bytes-is ∙ w.in-ok-push.ensures.items) w.high-is
+      | in-Some-high+in_ok-push w ↦
+          reads_as text _ _ _ _ (i + 1) (ap vec_items w.bytes-is ∙ w.in_ok-push.ensures.items) w.high-is
           (second_more text bytes i _ c.loop-c.invariant w.in-Some-high.first c.in-Some.digit c.loop-c-test.true c.if-c-eq32.false is w.in-Some-high.is)
     ]
 
 pub returns-in-default : goal.returns-in-default
 returns-in-default c =
-    other_ends c.args.hex.now _ c.loop-c.c-index _ c.loop-c.invariant c.loop-c-test.true c.if-c-eq32.false (sym c.digit-from.ensures ∙ c.in-default.is)
+    other_ends c.args.hex.now _ c.loop-c.c-index _ c.loop-c.invariant c.loop-c-test.true c.if-c-eq32.false (sym c.digit_from.ensures ∙ c.in-default.is)
 
 pub returns-in-None-high : goal.returns-in-None-high
 returns-in-None-high c =

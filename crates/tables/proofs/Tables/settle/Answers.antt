@@ -20,61 +20,61 @@ returns-then-len-n c =
     let n = many c.points-n.result.now (contents c.args.task.now).points c.points-n.ensures in
     record { answer = (omega (arith, n, c.len.ensures, c.if-len-n.true), refl); lent = record { ages = refl; reuses = refl; conflicts = refl; widest = refl } }
 
-pub settle-one-ages-requires : goal.settle-one-ages-requires
-settle-one-ages-requires c =
+pub settle_one-ages-requires : goal.settle_one-ages-requires
+settle_one-ages-requires c =
     let t = contents c.args.task.now in
     let n = many c.points-n.result.now t.points c.points-n.ensures in
     let few = (kept t c.args.task.now.draft.legal).points_few in
-    record { room = omega (arith, n, c.len.ensures, c.if-len-n.false); noted = omega (arith, few, c.access-notes-notes.ensures.room) }
+    record { room = omega (arith, n, c.len.ensures, c.if-len-n.false); noted = omega (arith, few, c.access_notes-notes.ensures.room) }
 
-pub settle-one-reuses-requires : goal.settle-one-reuses-requires
-settle-one-reuses-requires c =
+pub settle_one-reuses-requires : goal.settle_one-reuses-requires
+settle_one-reuses-requires c =
     let t = contents c.args.task.now in
     let n = many c.points-n.result.now t.points c.points-n.ensures in
     let few = (kept t c.args.task.now.draft.legal).points_few in
-    record { room = omega (arith, n, c.len.ensures, c.if-len-n.false); noted = omega (arith, few, c.access-notes-notes.ensures.room) }
+    record { room = omega (arith, n, c.len.ensures, c.if-len-n.false); noted = omega (arith, few, c.access_notes-notes.ensures.room) }
 
-pub settle-one-conflicts-requires : goal.settle-one-conflicts-requires
-settle-one-conflicts-requires c =
+pub settle_one-conflicts-requires : goal.settle_one-conflicts-requires
+settle_one-conflicts-requires c =
     let t = contents c.args.task.now in
     let n = many c.points-n.result.now t.points c.points-n.ensures in
     let few = (kept t c.args.task.now.draft.legal).points_few in
-    record { room = omega (arith, n, c.len.ensures, c.if-len-n.false); noted = omega (arith, few, c.access-notes-notes.ensures.room) }
+    record { room = omega (arith, n, c.len.ensures, c.if-len-n.false); noted = omega (arith, few, c.access_notes-notes.ensures.room) }
 
-pub use-notes-uses-requires : goal.use-notes-uses-requires
-use-notes-uses-requires c =
+pub use_notes-uses-requires : goal.use_notes-uses-requires
+use_notes-uses-requires c =
     let t = contents c.args.task.now in
     let n = many c.points-n.result.now t.points c.points-n.ensures in
     let few = (kept t c.args.task.now.draft.legal).points_few in
     let kind = conflicts_meaning c.of.result.blocks c.of.result.sets in
-    let room = solved_room kind Forward t c.access-notes-notes.result c.args.self.now.conflicts.rows.now c.settle-one-conflicts.new.table.rows.now c.settle-one-conflicts.result c.settle-one-conflicts.ensures.solved in
+    let room = solved_room kind Forward t c.access_notes-notes.result c.args.self.now.conflicts.rows.now c.settle_one-conflicts.new.table.rows.now c.settle_one-conflicts.result c.settle_one-conflicts.ensures.solved in
     record { few = omega (arith, n, few); filled = omega (arith, n, room) }
 
-pub settle-one-widest-requires : goal.settle-one-widest-requires
-settle-one-widest-requires c =
+pub settle_one-widest-requires : goal.settle_one-widest-requires
+settle_one-widest-requires c =
     let t = contents c.args.task.now in
     let n = many c.points-n.result.now t.points c.points-n.ensures in
     let few = (kept t c.args.task.now.draft.legal).points_few in
-    record { room = omega (arith, n, c.len.ensures, c.if-len-n.false); noted = omega (arith, few, c.use-notes-uses.ensures.room) }
+    record { room = omega (arith, n, c.len.ensures, c.if-len-n.false); noted = omega (arith, few, c.use_notes-uses.ensures.room) }
 
 pub returns : goal.returns
 returns c =
     let t = contents c.args.task.now in
     let n = many c.points-n.result.now t.points c.points-n.ensures in
     let few = (kept t c.args.task.now.draft.legal).blocks_few in
-    let notes = c.access-notes-notes.result in
-    let e = c.access-notes-notes.ensures.notes in
+    let notes = c.access_notes-notes.result in
+    let e = c.access_notes-notes.ensures.notes in
     let kind = c.of-kind.ensures in
     let here = c.args.self.now in
-    let settled = conflicts_settle t notes e c.of.result.blocks c.of.ensures.blocks Forward here.conflicts.rows.now c.settle-one-conflicts.new.table.rows.now c.settle-one-conflicts.result c.of.result.sets c.of.ensures.sets c.settle-one-conflicts.ensures.solved in
-    let uses : take (length t.points) c.use-notes-uses.result ≡ use_notes (take (length t.points) c.settle-one-conflicts.new.table.rows.now) (take (length t.points) notes) =
-    subst (λ (k : ℕ). take k c.use-notes-uses.result ≡ use_notes (take k c.settle-one-conflicts.new.table.rows.now) (take k notes)) n c.use-notes-uses.ensures.notes in
+    let settled = conflicts_settle t notes e c.of.result.blocks c.of.ensures.blocks Forward here.conflicts.rows.now c.settle_one-conflicts.new.table.rows.now c.settle_one-conflicts.result c.of.result.sets c.of.ensures.sets c.settle_one-conflicts.ensures.solved in
+    let uses : take (length t.points) c.use_notes-uses.result ≡ use_notes (take (length t.points) c.settle_one-conflicts.new.table.rows.now) (take (length t.points) notes) =
+    subst (λ (k : ℕ). take k c.use_notes-uses.result ≡ use_notes (take k c.settle_one-conflicts.new.table.rows.now) (take k notes)) n c.use_notes-uses.ensures.notes in
     record {
       answer = record {
-        ages = ages_settle t notes e c.of-kind.result.blocks kind.blocks Forward here.ages.rows.now c.settle-one-ages.new.table.rows.now c.settle-one-ages.result c.of-kind.result.ways c.of-kind.result.sets kind.ways kind.sets c.settle-one-ages.ensures.solved;
-        reuses = ages_settle t notes e c.of-kind.result.blocks kind.blocks Backward here.reuses.rows.now c.settle-one-reuses.new.table.rows.now c.settle-one-reuses.result c.of-kind.result.ways c.of-kind.result.sets kind.ways kind.sets c.settle-one-reuses.ensures.solved;
+        ages = ages_settle t notes e c.of-kind.result.blocks kind.blocks Forward here.ages.rows.now c.settle_one-ages.new.table.rows.now c.settle_one-ages.result c.of-kind.result.ways c.of-kind.result.sets kind.ways kind.sets c.settle_one-ages.ensures.solved;
+        reuses = ages_settle t notes e c.of-kind.result.blocks kind.blocks Backward here.reuses.rows.now c.settle_one-reuses.new.table.rows.now c.settle_one-reuses.result c.of-kind.result.ways c.of-kind.result.sets kind.ways kind.sets c.settle_one-reuses.ensures.solved;
         conflicts = settled;
-        widest = widest_settle t few c.use-notes-uses.result here.conflicts.rows.now c.settle-one-conflicts.new.table.rows.now c.settle-one-conflicts.result settled notes e uses Backward here.widest.rows.now c.settle-one-widest.new.table.rows.now c.settle-one-widest.result c.of-2.result.blocks c.of-2.ensures c.settle-one-widest.ensures.solved;
+        widest = widest_settle t few c.use_notes-uses.result here.conflicts.rows.now c.settle_one-conflicts.new.table.rows.now c.settle_one-conflicts.result settled notes e uses Backward here.widest.rows.now c.settle_one-widest.new.table.rows.now c.settle_one-widest.result c.of-2.result.blocks c.of-2.ensures c.settle_one-widest.ensures.solved;
       };
-      lent = record { ages = c.settle-one-ages.ensures.lent; reuses = c.settle-one-reuses.ensures.lent; conflicts = c.settle-one-conflicts.ensures.lent; widest = c.settle-one-widest.ensures.lent };
+      lent = record { ages = c.settle_one-ages.ensures.lent; reuses = c.settle_one-reuses.ensures.lent; conflicts = c.settle_one-conflicts.ensures.lent; widest = c.settle_one-widest.ensures.lent };
     }

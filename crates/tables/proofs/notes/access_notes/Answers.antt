@@ -24,9 +24,9 @@ loop-p-preserved c =
     let n = sym (length-map c.points-points.result.now point_contents) ∙ ap length c.points-points.ensures in
     let few = (kept t c.args.task.now.draft.legal).points_few in
     let long = length_access_notes t in
-    let note : c.block-index.result ≡ access_index (distinct_blocks t.points) (access_at t.points p) = c.block-index.ensures in (
-      length-set c.loop-p.notes p c.block-index.result ∙ c.loop-p.invariant.0,
-      built_more c.loop-p.notes (access_notes t) p c.block-index.result None (let room = c.loop-p.invariant.0 in omega arith) (omega arith) c.loop-p.invariant.1
+    let note : c.block_index.result ≡ access_index (distinct_blocks t.points) (access_at t.points p) = c.block_index.ensures in (
+      length-set c.loop-p.notes p c.block_index.result ∙ c.loop-p.invariant.0,
+      built_more c.loop-p.notes (access_notes t) p c.block_index.result None (let room = c.loop-p.invariant.0 in omega arith) (omega arith) c.loop-p.invariant.1
           (note ∙ sym (access_notes_at t p (omega arith))),
     )
 

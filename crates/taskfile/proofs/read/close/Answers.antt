@@ -39,8 +39,8 @@ open_within (p ∷ ps) k e = by (first_open (p ∷ ps)) refl (sym (with_points p
 pub unreachable-requires : goal.unreachable-requires
 unreachable-requires c = some_complete (draft_contents c.args.draft).points c.requires (c.in-Err.ensures.0 ∙ ap cause_said c.in-NoPoint.is)
 
-pub point-place-requires : goal.point-place-requires
-point-place-requires c =
+pub point_place-requires : goal.point_place-requires
+point_place-requires c =
     let e = c.in-Err.ensures in
     let d = c.args.draft in
     let within = open_within (draft_contents d).points c.in-NoSuccessor.k (e.0 ∙ ap cause_said c.in-NoSuccessor.is) in

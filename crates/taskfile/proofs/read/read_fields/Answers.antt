@@ -16,52 +16,52 @@ use Rattle.taskfile.proofs.read.read_fields.Goals as goal
 pub fields-init : goal.fields-init
 fields-init c =
     let file = c.args.file.now in
-    let first = c.in-ok-first.first in
+    let first = c.in_ok-first.first in
     let body = c.in-Header.body.now in
-    let e : field_at 0 file ≡ field (header body) first.place first.after.now = sym c.in-ok-first.ensures ∙ ap (λ (f : Field). field (field_contents f) first.place first.after.now) c.in-Header.is in
+    let e : field_at 0 file ≡ field (header body) first.place first.after.now = sym c.in_ok-first.ensures ∙ ap (λ (f : Field). field (field_contents f) first.place first.after.now) c.in-Header.is in
     let six = eqb-true (length body) 6 (field_sized 0 file (header body) first.place first.after.now e) in
-    let d = c.in-ok-draft.ensures in
+    let d = c.in_ok-draft.ensures in
     subst (Sofar file 9 first.after.now) (sym d.1) (started file body first.after.now first.place e d.0 six)
 
-pub returns-in-err-taken : goal.returns-in-err-taken
-returns-in-err-taken c =
-    let p = err_from_is_err_and c.from-residual-in-err-taken.result c.from-residual-in-err-taken.ensures.1 in
-    rw (p.1, p.2) (faulted c.args.file.now c.fields.place c.fields.rest.now (draft_contents c.fields.draft) c.fields.invariant _ _ (sym c.in-err-taken.ensures))
+pub returns-in_err-taken : goal.returns-in_err-taken
+returns-in_err-taken c =
+    let p = err_from_is_err_and c.from_residual-in_err-taken.result c.from_residual-in_err-taken.ensures.1 in
+    rw (p.1, p.2) (faulted c.args.file.now c.fields.place c.fields.rest.now (draft_contents c.fields.draft) c.fields.invariant _ _ (sym c.in_err-taken.ensures))
 
 pub close-requires : goal.close-requires
 close-requires c =
     let t = draft_contents c.fields.draft in
     let s = c.in-Ok.ensures in
     let ends = ended_said c.in-Ok.progress t (draft_contents c.step.new.draft) _ c.in-Ended.is s.step s.kept in
-    ap (λ (u : TaskContents). is_empty u.points) ends.1 ∙ ended_after_point t (field_contents c.in-ok-taken.taken.field) ends.0
+    ap (λ (u : TaskContents). is_empty u.points) ends.1 ∙ ended_after_point t (field_contents c.in_ok-taken.taken.field) ends.0
 
 pub returns-in-Ended : goal.returns-in-Ended
 returns-in-Ended c =
-    let taken = c.in-ok-taken.taken in
+    let taken = c.in_ok-taken.taken in
     let t = draft_contents c.fields.draft in
     let s = c.in-Ok.ensures in
     let ends = ended_said c.in-Ok.progress t (draft_contents c.step.new.draft) _ c.in-Ended.is s.step s.kept in
-    let e = ended_here c.args.file.now c.fields.place c.fields.rest.now t c.fields.invariant (field_contents taken.field) taken.place taken.after.now (sym c.in-ok-taken.ensures) (sym ends.0) in
+    let e = ended_here c.args.file.now c.fields.place c.fields.rest.now t c.fields.invariant (field_contents taken.field) taken.place taken.after.now (sym c.in_ok-taken.ensures) (sym ends.0) in
     answered_as _ _ _ c.close.result (e ∙ sym (ap (closed (c.fields.place + 3) taken.after.now) ends.1)) c.close.ensures
 
 pub returns-in-Err : goal.returns-in-Err
 returns-in-Err c =
-    let taken = c.in-ok-taken.taken in
-    refused_here c.args.file.now c.fields.place c.fields.rest.now (draft_contents c.fields.draft) c.fields.invariant (field_contents taken.field) taken.place taken.after.now (sym c.in-ok-taken.ensures) _ (sym c.in-Err.ensures.step)
+    let taken = c.in_ok-taken.taken in
+    refused_here c.args.file.now c.fields.place c.fields.rest.now (draft_contents c.fields.draft) c.fields.invariant (field_contents taken.field) taken.place taken.after.now (sym c.in_ok-taken.ensures) _ (sym c.in-Err.ensures.step)
 
 pub overflow-sub-place : goal.overflow-sub-place
 overflow-sub-place c =
-    let taken = c.in-ok-taken.taken in
-    omega (arith, (field_lengths c.fields.place c.fields.rest.now (field_contents taken.field) taken.place taken.after.now (sym c.in-ok-taken.ensures)).1)
+    let taken = c.in_ok-taken.taken in
+    omega (arith, (field_lengths c.fields.place c.fields.rest.now (field_contents taken.field) taken.place taken.after.now (sym c.in_ok-taken.ensures)).1)
 
 pub fields-smaller : goal.fields-smaller
 fields-smaller c =
-    let taken = c.in-ok-taken.taken in
-    omega (arith, (field_lengths c.fields.place c.fields.rest.now (field_contents taken.field) taken.place taken.after.now (sym c.in-ok-taken.ensures)).1)
+    let taken = c.in_ok-taken.taken in
+    omega (arith, (field_lengths c.fields.place c.fields.rest.now (field_contents taken.field) taken.place taken.after.now (sym c.in_ok-taken.ensures)).1)
 
 pub fields-preserved : goal.fields-preserved
 fields-preserved c =
-    let taken = c.in-ok-taken.taken in
+    let taken = c.in_ok-taken.taken in
     let u = draft_contents c.step.new.draft in
-    taken_here c.args.file.now c.fields.place c.fields.rest.now (draft_contents c.fields.draft) c.fields.invariant (field_contents taken.field) taken.place taken.after.now (sym c.in-ok-taken.ensures) u
+    taken_here c.args.file.now c.fields.place c.fields.rest.now (draft_contents c.fields.draft) c.fields.invariant (field_contents taken.field) taken.place taken.after.now (sym c.in_ok-taken.ensures) u
     (sym (taken_said c.in-Ok.progress u _ c.in-default-progress.is c.in-Ok.ensures.step))

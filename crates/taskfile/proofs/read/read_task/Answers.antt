@@ -8,9 +8,9 @@ use Rattle.taskfile.proofs.read.read_task.Goals as goal
 pub returns : goal.returns
 returns c =
     let file = c.args.file.now in
-    let bytes = All-from_get_or (λ b. b < 256) file 0 (λ i _. omega (arith, c.type-inv.file i)) in
+    let bytes = All-from_get_or (λ b. b < 256) file 0 (λ i _. omega (arith, c.type_inv.file i)) in
     record {
-      answer = c.read-fields.ensures;
+      answer = c.read_fields.ensures;
       law = rewriting_keeps_the_bytes;
-      rewriting_keeps_the_bytes = accepted_made _ _ _ c.read-fields.result (λ t e. rewriting_keeps_the_bytes file t bytes e) c.read-fields.ensures;
+      rewriting_keeps_the_bytes = accepted_made _ _ _ c.read_fields.result (λ t e. rewriting_keeps_the_bytes file t bytes e) c.read_fields.ensures;
     }

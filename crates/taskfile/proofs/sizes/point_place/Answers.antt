@@ -12,7 +12,7 @@ overflow-add-place c =
     let e = ap (λ (q : Point). length (point_bytes q)) c.point-item.is in
     let s = points_small before in
     let l = length-take (c.args.k - 0) c.args.points.now in
-    let r = c.point-size-place.ensures in
+    let r = c.point_size-place.ensures in
     omega (arith, c.loop-point.invariant, c.requires.few)
 
 pub loop-point-preserved : goal.loop-point-preserved
@@ -21,7 +21,7 @@ loop-point-preserved c =
     let before = take (c.args.k - 0) c.args.points.now in
     let m = left_more before c.loop-point.point-index p c.loop-point-test.true in
     let e = ap (λ (q : Point). length (point_bytes q)) c.point-item.is in
-    let r = c.point-size-place.ensures in
+    let r = c.point_size-place.ensures in
     omega (arith, c.loop-point.invariant)
 
 pub returns : goal.returns

@@ -8,4 +8,4 @@ returns-in-1 c =
     let body = c.args.body.now in
     let l : 5 ≤ length body = search rules in
     let m : get_or body 0 0 ≡ 1 = search rules in
-    c.new.ensures ∙ accessing body c.from-be-bytes.result _ l m c.from-be-bytes.ensures (take_rest body 5)
+    c.new.ensures ∙ accessing body c.from_be_bytes.result _ l m c.from_be_bytes.ensures (take_rest body 5)

@@ -10,8 +10,8 @@ use Rattle.taskfile.proofs.PointBytes.{points_bytes, place_of, points_small}
 use Rattle.taskfile.proofs.Filling.{whole_length}
 use Rattle.taskfile.proofs.write.file_size.Goals as goal
 
-pub point-place-requires : goal.point-place-requires
-point-place-requires c =
+pub point_place-requires : goal.point_place-requires
+point_place-requires c =
     let d = c.args.task.now.draft in
     let k = (kept (draft_contents d) d.legal).points_few in
     let l = length-map c.points-points.result.now point_contents in

@@ -2,19 +2,19 @@ use Rattle.std.proofs.Common.{[], ◌∷◌}
 use Rattle.taskfile.proofs.Filling.{evicting_bytes, last_bytes, filled_within, two_parts, first_fits, second_fits}
 use Rattle.taskfile.proofs.write.put_last.Goals as goal
 
-pub put-evicting-at-requires : goal.put-evicting-at-requires
-put-evicting-at-requires c = let blocks = c.args.blocks.now in first_fits (evicting_bytes blocks) (4 ∷ 0 ∷ 0 ∷ []) _ c.args.out.now (last_bytes blocks) c.requires
+pub put_evicting-at-requires : goal.put_evicting-at-requires
+put_evicting-at-requires c = let blocks = c.args.blocks.now in first_fits (evicting_bytes blocks) (4 ∷ 0 ∷ 0 ∷ []) _ c.args.out.now (last_bytes blocks) c.requires
 
 pub slice-bounds-put-count : goal.slice-bounds-put-count
-slice-bounds-put-count c = filled_within _ c.args.out.now c.put-evicting-at.new.out c.put-evicting-at.result c.put-evicting-at.ensures
+slice-bounds-put-count c = filled_within _ c.args.out.now c.put_evicting-at.new.out c.put_evicting-at.result c.put_evicting-at.ensures
 
 pub slice-bounds-put-start : goal.slice-bounds-put-start
-slice-bounds-put-start c = filled_within _ c.args.out.now c.put-evicting-at.new.out c.put-evicting-at.result c.put-evicting-at.ensures
+slice-bounds-put-start c = filled_within _ c.args.out.now c.put_evicting-at.new.out c.put_evicting-at.result c.put_evicting-at.ensures
 
 pub put-requires : goal.put-requires
-put-requires c = let blocks = c.args.blocks.now in second_fits (evicting_bytes blocks) (4 ∷ 0 ∷ 0 ∷ []) _ c.args.out.now c.put-evicting-at.new.out c.put-evicting-at.result (last_bytes blocks) c.requires c.put-evicting-at.ensures
+put-requires c = let blocks = c.args.blocks.now in second_fits (evicting_bytes blocks) (4 ∷ 0 ∷ 0 ∷ []) _ c.args.out.now c.put_evicting-at.new.out c.put_evicting-at.result (last_bytes blocks) c.requires c.put_evicting-at.ensures
 
 pub returns : goal.returns
 returns c =
     let blocks = c.args.blocks.now in
-    two_parts (evicting_bytes blocks) (4 ∷ 0 ∷ 0 ∷ []) _ c.args.out.now c.put-evicting-at.new.out c.put.new.out c.put-evicting-at.result c.put.result (last_bytes blocks) c.requires c.put-evicting-at.ensures c.put.ensures
+    two_parts (evicting_bytes blocks) (4 ∷ 0 ∷ 0 ∷ []) _ c.args.out.now c.put_evicting-at.new.out c.put.new.out c.put_evicting-at.result c.put.result (last_bytes blocks) c.requires c.put_evicting-at.ensures c.put.ensures

@@ -18,10 +18,10 @@ reread : (t : TaskContents) (before after : List ℕ) (n : ℕ) → legal t ≡ 
 reread t before after n h f =
     ap meaning (ap (take n) f.1 ∙ take_at (task_bytes t) (drop n before) n (sym f.0)) ∙ rereading_keeps_the_task t h
 
-pub returns-then-out-file-size : goal.returns-then-out-file-size
-returns-then-out-file-size c =
+pub returns-then-out-file_size : goal.returns-then-out-file_size
+returns-then-out-file_size c =
     let t = contents c.args.task.now in
-    let short : length c.args.out.now < length (task_bytes t) = let e = c.file-size.ensures in omega (arith, c.if-out-file-size.true) in
+    let short : length c.args.out.now < length (task_bytes t) = let e = c.file_size.ensures in omega (arith, c.if-out-file_size.true) in
     record { answer = (short, refl); law = rereading_keeps_the_task; rereading_keeps_the_task = tt }
 
 pub returns : goal.returns
@@ -33,7 +33,7 @@ returns c =
     ap (λ (n : ℕ). field_bytes (header (n ∷ (q.ways ∷ four_bytes q.reload)))) p.sets
     ∙ ap (λ (n : ℕ). field_bytes (header (t.sets ∷ (n ∷ four_bytes q.reload)))) p.ways
     ∙ ap (λ (n : ℕ). field_bytes (header (t.sets ∷ (t.ways ∷ four_bytes n)))) p.reload in
-    let fits : length (task_bytes t) ≤ length c.args.out.now = let e = c.file-size.ensures in omega (arith, c.if-out-file-size.false) in
-    let all = two_parts (field_bytes (header_field t)) (flat_map field_bytes (fields_after_header t)) (task_bytes t) c.args.out.now c.put-header-at.new.out c.put-fields.new.out c.put-header-at.result c.put-fields.result refl fits
-    (filled_as _ _ _ _ _ h c.put-header-at.ensures) c.put-fields.ensures in
+    let fits : length (task_bytes t) ≤ length c.args.out.now = let e = c.file_size.ensures in omega (arith, c.if-out-file_size.false) in
+    let all = two_parts (field_bytes (header_field t)) (flat_map field_bytes (fields_after_header t)) (task_bytes t) c.args.out.now c.put_header-at.new.out c.put_fields.new.out c.put_header-at.result c.put_fields.result refl fits
+    (filled_as _ _ _ _ _ h c.put_header-at.ensures) c.put_fields.ensures in
     record { answer = all; law = rereading_keeps_the_task; rereading_keeps_the_task = reread t c.args.out.now _ _ p.legal all }

@@ -30,7 +30,7 @@ returns c =
     let room : s.sets ≤ length s.lists = omega arith in
     let e = c.admit-hit.ensures in
     record {
-      hit = c.from-hit.ensures ∙ ap outcome_of (e.hit ∙ ap (has b) (sym (row_list s.sets s.ways b s.lists _ s.some_sets room)));
+      hit = c.from_hit.ensures ∙ ap outcome_of (e.hit ∙ ap (has b) (sym (row_list s.sets s.ways b s.lists _ s.some_sets room)));
       moved = row_set s.sets s.ways b s.lists _ s.some_sets room (fifo_step s.ways b) c.admit-hit.new.self e.moved;
       sets = refl;
       ways = refl;

@@ -5,11 +5,11 @@ use Rattle.cache.proofs.lru.Lru.new.Goals as goal
 
 pub invariant-of-result : goal.invariant-of-result
 invariant-of-result c =
-    let made = c.in-ok-check-size.ensures in
+    let made = c.in_ok-check_size.ensures in
     let k = size_within c.args.sets c.args.ways made in
     (refl, (k.0, (k.1, (k.2, (k.3, (new_is_row c.args.sets c.args.ways c.new.result made c.new.ensures, tt))))))
 
 pub returns : goal.returns
 returns c =
-    let made = c.in-ok-check-size.ensures in
+    let made = c.in_ok-check_size.ensures in
     (made, refl, refl, new_row c.args.sets c.args.ways c.new.result made c.new.ensures)

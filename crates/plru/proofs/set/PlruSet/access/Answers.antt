@@ -11,7 +11,7 @@ pub returns-then-found-self : goal.returns-then-found-self
 returns-then-found-self c =
     let s = c.args.self.now in
     let b = c.args.block in
-    let found = c.index-of-found.ensures ∙ ap (index_of b) c.blocks-2.ensures in
+    let found = c.index_of-found.ensures ∙ ap (index_of b) c.blocks-2.ensures in
     let n = filled_length s.blocks s.count (omega arith) in
     let t = c.if-found-self.true in
     let h : has b (take s.count s.blocks) ≡ true = index_has b (take s.count s.blocks) (omega arith) in
@@ -24,7 +24,7 @@ pub returns : goal.returns
 returns c =
     let s = c.args.self.now in
     let b = c.args.block in
-    let found = c.index-of-found.ensures ∙ ap (index_of b) c.blocks-2.ensures in
+    let found = c.index_of-found.ensures ∙ ap (index_of b) c.blocks-2.ensures in
     let n = filled_length s.blocks s.count (omega arith) in
     let l = c.if-found-self.false in
     let h : has b (take s.count s.blocks) ≡ false = index_lacks b (take s.count s.blocks) (omega arith) in

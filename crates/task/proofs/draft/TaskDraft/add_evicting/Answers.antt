@@ -33,21 +33,21 @@ module _ (d : TaskDraft) (b : ℕ) where
 abbrev with_evicting : TaskContents → List ℕ → TaskContents
 with_evicting t bs = task_with t.sets t.ways t.reload t.points bs
 
-pub returns-then-not-may-follow : goal.returns-then-not-may-follow
-returns-then-not-may-follow c =
+pub returns-then-not-may_follow : goal.returns-then-not-may_follow
+returns-then-not-may_follow c =
     let d = c.args.self.now in
-    record { verdict = sym (cond-false _ _ unfit (followed d c.args.block _ false c.deref.ensures.value c.if-not-may-follow.ensures)); after = refl }
+    record { verdict = sym (cond-false _ _ unfit (followed d c.args.block _ false c.deref.ensures.value c.if-not-may_follow.ensures)); after = refl }
 
-pub returns-then-len-eq-MAX-EVICTING : goal.returns-then-len-eq-MAX-EVICTING
-returns-then-len-eq-MAX-EVICTING c =
+pub returns-then-len-eq-MAX_EVICTING : goal.returns-then-len-eq-MAX_EVICTING
+returns-then-len-eq-MAX_EVICTING c =
     let d = c.args.self.now in
     record {
-      verdict = sym (cond-true _ _ unfit (followed d c.args.block _ true c.deref.ensures.value c.if-not-may-follow.ensures) ∙ cond-false _ fits too_many (full d c.args.block c.len.result c.if-len-eq-MAX-EVICTING.true c.len.ensures));
+      verdict = sym (cond-true _ _ unfit (followed d c.args.block _ true c.deref.ensures.value c.if-not-may_follow.ensures) ∙ cond-false _ fits too_many (full d c.args.block c.len.result c.if-len-eq-MAX_EVICTING.true c.len.ensures));
       after = refl;
     }
 
-pub push-reserved-requires : goal.push-reserved-requires
-push-reserved-requires c =
+pub push_reserved-requires : goal.push_reserved-requires
+push_reserved-requires c =
     let d = c.args.self.now in
     let k = kept (draft_contents d) d.legal in
     let f = k.evicting_few in
@@ -60,10 +60,10 @@ pub invariant-of-self : goal.invariant-of-self
 invariant-of-self c =
     let d = c.args.self.now in
     let b = c.args.block in
-    let e = c.push-reserved.ensures.capacity in
+    let e = c.push_reserved.ensures.capacity in
     let r = d.evicting_room in (
-      ap (λ (bs : List ℕ). legal_draft (with_evicting (draft_contents d) bs)) c.push-reserved.ensures.items
-          ∙ evicting_added (draft_contents d) b d.legal (followed d b _ true c.deref.ensures.value c.if-not-may-follow.ensures) (few d b c.len.result c.if-len-eq-MAX-EVICTING.false c.len.ensures),
+      ap (λ (bs : List ℕ). legal_draft (with_evicting (draft_contents d) bs)) c.push_reserved.ensures.items
+          ∙ evicting_added (draft_contents d) b d.legal (followed d b _ true c.deref.ensures.value c.if-not-may_follow.ensures) (few d b c.len.result c.if-len-eq-MAX_EVICTING.false c.len.ensures),
       (d.named, (d.points_room, (d.blocks_room, (omega arith, tt)))),
     )
 
@@ -72,6 +72,6 @@ returns c =
     let d = c.args.self.now in
     let b = c.args.block in
     record {
-      verdict = sym (cond-true _ _ unfit (followed d b _ true c.deref.ensures.value c.if-not-may-follow.ensures) ∙ cond-true _ fits too_many (few d b c.len.result c.if-len-eq-MAX-EVICTING.false c.len.ensures));
-      after = ap (with_evicting (draft_contents d)) c.push-reserved.ensures.items;
+      verdict = sym (cond-true _ _ unfit (followed d b _ true c.deref.ensures.value c.if-not-may_follow.ensures) ∙ cond-true _ fits too_many (few d b c.len.result c.if-len-eq-MAX_EVICTING.false c.len.ensures));
+      after = ap (with_evicting (draft_contents d)) c.push_reserved.ensures.items;
     }

@@ -20,15 +20,15 @@ verdict_full t p h = sym (cond-false _ fits too_many h)
 counted : (d : TaskDraft) → length (draft_contents d).points ≡ vec_len d.points
 counted d = length-map (vec_items d.points) point_contents ∙ sym d.points.ok.0
 
-pub note-access-requires : goal.note-access-requires
-note-access-requires c =
+pub note_access-requires : goal.note_access-requires
+note_access-requires c =
     let d = c.args.self.now in
     let k = kept (draft_contents d) d.legal in
     let n = d.blocks.ok.0 in
     (omega (arith, ap length d.named, k.blocks_few), d.blocks_room)
 
-pub returns-then-len-eq-MAX-POINTS : goal.returns-then-len-eq-MAX-POINTS
-returns-then-len-eq-MAX-POINTS c =
+pub returns-then-len-eq-MAX_POINTS : goal.returns-then-len-eq-MAX_POINTS
+returns-then-len-eq-MAX_POINTS c =
     let d = c.args.self.now in
     let p = point_contents c.args.point in
     record { verdict = verdict_full (draft_contents d) p (points_full (draft_contents d).points p (counted d ∙ (let e = c.len.ensures in omega arith))); after = refl }
@@ -38,17 +38,17 @@ tested : (d : TaskDraft) (p : Point) (access : Option ℕ) (v : Bool) → access
     → leb (length (noted (distinct_blocks (draft_contents d).points) p.access)) 64 ≡ v
 tested d p access v e h = sym (h ∙ ap (λ (a : Option ℕ). leb (length (noted (vec_items d.blocks) a)) 64) e ∙ ap (λ (bs : List ℕ). leb (length (noted bs p.access)) 64) d.named)
 
-pub returns-then-not-note-access : goal.returns-then-not-note-access
-returns-then-not-note-access c =
+pub returns-then-not-note_access : goal.returns-then-not-note_access
+returns-then-not-note_access c =
     let d = c.args.self.now in
     let p = point_contents c.args.point in
     record {
-      verdict = verdict_full (draft_contents d) p (blocks_full (draft_contents d).points p (tested d c.args.point _ false c.access.ensures c.if-not-note-access.ensures.test));
+      verdict = verdict_full (draft_contents d) p (blocks_full (draft_contents d).points p (tested d c.args.point _ false c.access.ensures c.if-not-note_access.ensures.test));
       after = refl;
     }
 
-pub push-reserved-requires : goal.push-reserved-requires
-push-reserved-requires c =
+pub push_reserved-requires : goal.push_reserved-requires
+push_reserved-requires c =
     let d = c.args.self.now in
     let k = kept (draft_contents d) d.legal in
     let n = counted d in
@@ -75,14 +75,14 @@ pub invariant-of-self-2 : goal.invariant-of-self-2
 invariant-of-self-2 c =
     let d = c.args.self.now in
     let p = c.args.point in
-    let added = pushed d p (vec_items c.push-reserved.new.self) c.push-reserved.ensures.items in
-    let ok = few d p _ _ c.access.ensures c.len.ensures c.if-len-eq-MAX-POINTS.false c.if-not-note-access.ensures.test in
-    let more = c.if-not-note-access.ensures in (
+    let added = pushed d p (vec_items c.push_reserved.new.self) c.push_reserved.ensures.items in
+    let ok = few d p _ _ c.access.ensures c.len.ensures c.if-len-eq-MAX_POINTS.false c.if-not-note_access.ensures.test in
+    let more = c.if-not-note_access.ensures in (
       ap (λ (ps : List PointContents). legal_draft (with_points (draft_contents d) ps)) added ∙ point_added (draft_contents d) (point_contents p) d.legal p.legal ok,
       (
         more.after ∙ ap (noted (vec_items d.blocks)) c.access.ensures ∙ ap (λ (bs : List ℕ). noted bs p.access) d.named
             ∙ sym (noted_push [] (draft_contents d).points (point_contents p)) ∙ sym (ap distinct_blocks added),
-        (let e = c.push-reserved.ensures.capacity in let r = d.points_room in omega arith, (let e = more.capacity in let r = d.blocks_room in omega arith, (d.evicting_room, tt))),
+        (let e = c.push_reserved.ensures.capacity in let r = d.points_room in omega arith, (let e = more.capacity in let r = d.blocks_room in omega arith, (d.evicting_room, tt))),
       ),
     )
 
@@ -90,8 +90,8 @@ pub returns : goal.returns
 returns c =
     let d = c.args.self.now in
     let p = c.args.point in
-    let added = pushed d p (vec_items c.push-reserved.new.self) c.push-reserved.ensures.items in
-    let ok = few d p _ _ c.access.ensures c.len.ensures c.if-len-eq-MAX-POINTS.false c.if-not-note-access.ensures.test in
+    let added = pushed d p (vec_items c.push_reserved.new.self) c.push_reserved.ensures.items in
+    let ok = few d p _ _ c.access.ensures c.len.ensures c.if-len-eq-MAX_POINTS.false c.if-not-note_access.ensures.test in
     record {
       verdict = sym (cond-true (few_points ((draft_contents d).points ++ (point_contents p ∷ []))) fits too_many ok);
       after = ap (with_points (draft_contents d)) added;

@@ -22,23 +22,23 @@ no_points shown ps e h =
     let n = eqb-true (length shown) 0 (sym h) in
     lt-leb 1 (length ps) (omega (arith, ap length e))
 
-pub returns-then-is-empty : goal.returns-then-is-empty
-returns-then-is-empty c = (cond-false _ _ no_point (no_points _ _ c.points.ensures c.if-is-empty.ensures), refl)
+pub returns-then-is_empty : goal.returns-then-is_empty
+returns-then-is_empty c = (cond-false _ _ no_point (no_points _ _ c.points.ensures c.if-is_empty.ensures), refl)
 
 pub invariant-of-result : goal.invariant-of-result
 invariant-of-result c =
     let ps = all_contents c.args.self.points.items in
     let closed = every_none (closed_point (length ps)) 0 ps (sym (c.in-None.ensures ∙ ap first_open c.points-2.ensures)) in
-    (and_from _ _ (some_point _ _ c.points.ensures c.if-is-empty.ensures) closed, tt)
+    (and_from _ _ (some_point _ _ c.points.ensures c.if-is_empty.ensures) closed, tt)
 
 pub returns-in-None : goal.returns-in-None
 returns-in-None c = (
-  cond-true _ _ no_point (some_point _ _ c.points.ensures c.if-is-empty.ensures) ∙ ap closing (sym (c.in-None.ensures ∙ ap first_open c.points-2.ensures)),
+  cond-true _ _ no_point (some_point _ _ c.points.ensures c.if-is_empty.ensures) ∙ ap closing (sym (c.in-None.ensures ∙ ap first_open c.points-2.ensures)),
   refl,
 )
 
 pub returns-in-Some : goal.returns-in-Some
 returns-in-Some c = (
-  cond-true _ _ no_point (some_point _ _ c.points.ensures c.if-is-empty.ensures) ∙ ap closing (sym (c.in-Some.ensures ∙ ap first_open c.points-2.ensures)),
+  cond-true _ _ no_point (some_point _ _ c.points.ensures c.if-is_empty.ensures) ∙ ap closing (sym (c.in-Some.ensures ∙ ap first_open c.points-2.ensures)),
   refl,
 )

@@ -5,12 +5,12 @@ use Rattle.task.specs.Lists.{every, rising}
 use Rattle.task.proofs.Drafting.{every_push, every_last}
 use Rattle.task.proofs.draft.methods.may_follow.Goals as goal
 
-pub returns-then-block-gt-MAX-BLOCK : goal.returns-then-block-gt-MAX-BLOCK
-returns-then-block-gt-MAX-BLOCK c h = sym (and_left _ _ (every_last is_block c.args.evicting.now c.args.block (le-ltb _ _ (omega arith))))
+pub returns-then-block-gt-MAX_BLOCK : goal.returns-then-block-gt-MAX_BLOCK
+returns-then-block-gt-MAX_BLOCK c h = sym (and_left _ _ (every_last is_block c.args.evicting.now c.args.block (le-ltb _ _ (omega arith))))
 
 pub returns : goal.returns
 returns c h =
     let xs = c.args.evicting.now in
     let b = c.args.block in
     let p = and_parts (every is_block xs) (rising xs) h in
-    c.is-above-last.ensures p.1 ∙ sym (ap (λ (v : Bool). v && rising (xs ++ (b ∷ []))) (every_push is_block xs b p.0 (lt-ltb _ _ (omega arith))))
+    c.is_above_last.ensures p.1 ∙ sym (ap (λ (v : Bool). v && rising (xs ++ (b ∷ []))) (every_push is_block xs b p.0 (lt-ltb _ _ (omega arith))))

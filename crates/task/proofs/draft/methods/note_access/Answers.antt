@@ -23,8 +23,8 @@ returns-then-contains c =
     let n = c.args.blocks.now.ok.0 in
     record { test = sym (le-leb _ 64 (omega (arith, ap length e))); after = sym e; capacity = refl }
 
-pub returns-then-len-eq-MAX-BLOCKS : goal.returns-then-len-eq-MAX-BLOCKS
-returns-then-len-eq-MAX-BLOCKS c =
+pub returns-then-len-eq-MAX_BLOCKS : goal.returns-then-len-eq-MAX_BLOCKS
+returns-then-len-eq-MAX_BLOCKS c =
     let seen = vec_items c.args.blocks.now in
     let b = c.in-Some.block in
     let h : has b seen ≡ false = sym (ap (has b) c.deref.ensures.value) ∙ sym (has_contained _ b _ c.contains.ensures.cases) ∙ c.if-contains.false in
@@ -41,4 +41,4 @@ returns c =
     let e = new_length seen b c.args.access c.in-Some.is h in
     let n = c.args.blocks.now.ok.0 in
     let l = length_push seen b in
-    record { test = sym (le-leb _ 64 (omega (arith, ap length e))); after = c.push-reserved.ensures.items ∙ sym e; capacity = c.push-reserved.ensures.capacity }
+    record { test = sym (le-leb _ 64 (omega (arith, ap length e))); after = c.push_reserved.ensures.items ∙ sym e; capacity = c.push_reserved.ensures.capacity }

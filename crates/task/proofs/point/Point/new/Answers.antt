@@ -13,13 +13,13 @@ tested access successors few a r = and_from _ _ a (and_from _ _ (le-leb _ _ few)
 pub invariant-of-result : goal.invariant-of-result
 invariant-of-result c =
     let xs = c.args.successors.now in
-    let ok = tested c.args.access xs (omega arith) (sym c.if-not-is-block.ensures) (sym c.if-not-is-rising.ensures) in
-    let stored = take_at c.copy-from-slice.new.self _ (length xs) (ap length c.copy-from-slice.ensures.after) ∙ c.copy-from-slice.ensures.after in
+    let ok = tested c.args.access xs (omega arith) (sym c.if-not-is_block.ensures) (sym c.if-not-is_rising.ensures) in
+    let stored = take_at c.copy_from_slice.new.self _ (length xs) (ap length c.copy_from_slice.ensures.after) ∙ c.copy_from_slice.ensures.after in
     (omega arith, (search (rules, places), (ap (λ (zs : List ℕ). legal_point (point_with c.args.access zs)) stored ∙ ok, tt)))
 
 pub returns : goal.returns
 returns c =
     let xs = c.args.successors.now in
-    let ok = tested c.args.access xs (omega arith) (sym c.if-not-is-block.ensures) (sym c.if-not-is-rising.ensures) in
-    let stored = take_at c.copy-from-slice.new.self _ (length xs) (ap length c.copy-from-slice.ensures.after) ∙ c.copy-from-slice.ensures.after in
+    let ok = tested c.args.access xs (omega arith) (sym c.if-not-is_block.ensures) (sym c.if-not-is_rising.ensures) in
+    let stored = take_at c.copy_from_slice.new.self _ (length xs) (ap length c.copy_from_slice.ensures.after) ∙ c.copy_from_slice.ensures.after in
     ap (λ (zs : List ℕ). Some (point_with c.args.access zs)) stored ∙ sym (cond-true (legal_point (point_with c.args.access xs)) (Some (point_with c.args.access xs)) None ok)

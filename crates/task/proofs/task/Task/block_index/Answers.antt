@@ -19,26 +19,26 @@ found shown ps k p e h g =
     ∙ ap (λ (q : PointContents). q.access) (get_or-map point_contents shown k p (point_contents p) h)
     ∙ ap (λ (q : Point). q.access) (sym g)
 
-pub returns-in-err-get : goal.returns-in-err-get
-returns-in-err-get c =
+pub returns-in_err-get : goal.returns-in_err-get
+returns-in_err-get c =
     let ps = (contents c.args.self.now).points in
     let l = length-map c.points.result.now point_contents in
-    let past = ltb-false _ _ (sym c.in-err-get.ensures.lookup.0) in
-    c.from-residual.ensures
+    let past = ltb-false _ _ (sym c.in_err-get.ensures.lookup.0) in
+    c.from_residual.ensures
     ∙ sym (ap (access_index (distinct_blocks ps)) (access_past ps c.args.point (omega (arith, ap length c.points.ensures))))
 
-pub returns-in-err-block : goal.returns-in-err-block
-returns-in-err-block c =
+pub returns-in_err-block : goal.returns-in_err-block
+returns-in_err-block c =
     let ps = (contents c.args.self.now).points in
-    let at = c.in-ok-get.ensures.lookup in
-    let here = found _ ps c.args.point c.in-ok-get.field-0.now c.points.ensures (ltb-true _ _ (sym at.0)) at.1 in
-    c.from-residual-in-err-block.ensures ∙ sym (ap (access_index (distinct_blocks ps)) (here ∙ sym c.in-err-block.ensures))
+    let at = c.in_ok-get.ensures.lookup in
+    let here = found _ ps c.args.point c.in_ok-get.field-0.now c.points.ensures (ltb-true _ _ (sym at.0)) at.1 in
+    c.from_residual-in_err-block.ensures ∙ sym (ap (access_index (distinct_blocks ps)) (here ∙ sym c.in_err-block.ensures))
 
 pub returns : goal.returns
 returns c =
     let ps = (contents c.args.self.now).points in
-    let at = c.in-ok-get.ensures.lookup in
-    let here = found _ ps c.args.point c.in-ok-get.field-0.now c.points.ensures (ltb-true _ _ (sym at.0)) at.1 in
-    c.index-of.ensures
-    ∙ ap (first_from 0 (eqb c.in-ok-block.block)) c.blocks-2.ensures.value
-    ∙ sym (ap (access_index (distinct_blocks ps)) (here ∙ sym c.in-ok-block.ensures))
+    let at = c.in_ok-get.ensures.lookup in
+    let here = found _ ps c.args.point c.in_ok-get.field-0.now c.points.ensures (ltb-true _ _ (sym at.0)) at.1 in
+    c.index_of.ensures
+    ∙ ap (first_from 0 (eqb c.in_ok-block.block)) c.blocks-2.ensures.value
+    ∙ sym (ap (access_index (distinct_blocks ps)) (here ∙ sym c.in_ok-block.ensures))

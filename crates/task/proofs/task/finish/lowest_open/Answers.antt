@@ -17,18 +17,18 @@ as_contents points =
     first_map point_contents (is_open (length points)) 0 points
     ∙ ap (λ n. first_from 0 (is_open n) (all_contents points)) (sym (length-map points point_contents))
 
-pub returns-then-not-is-closed : goal.returns-then-not-is-closed
-returns-then-not-is-closed c =
+pub returns-then-not-is_closed : goal.returns-then-not-is_closed
+returns-then-not-is_closed c =
     let xs = c.args.points.now in
     let p = c.index-points-k.result in
-    let open_here = ap (λ (q : Point). is_open (length xs) (point_contents q)) (sym c.index-points-k.is) ∙ ap not (sym c.if-not-is-closed.ensures) in
+    let open_here = ap (λ (q : Point). is_open (length xs) (point_contents q)) (sym c.index-points-k.is) ∙ ap not (sym c.if-not-is_closed.ensures) in
     first_stops (λ q. is_open (length xs) (point_contents q)) xs c.loop-k.k p c.loop-k-test.true open_here c.loop-k.invariant ∙ as_contents xs
 
 pub loop-k-preserved : goal.loop-k-preserved
 loop-k-preserved c =
     let xs = c.args.points.now in
     let p = c.index-points-k.result in
-    let closed_here = ap (λ (q : Point). is_open (length xs) (point_contents q)) (sym c.index-points-k.is) ∙ ap not (sym c.if-not-is-closed.ensures) in
+    let closed_here = ap (λ (q : Point). is_open (length xs) (point_contents q)) (sym c.index-points-k.is) ∙ ap not (sym c.if-not-is_closed.ensures) in
     first_goes (λ q. is_open (length xs) (point_contents q)) xs c.loop-k.k p c.loop-k-test.true closed_here c.loop-k.invariant
 
 pub returns : goal.returns

@@ -10,9 +10,9 @@ loop-i-preserved c =
     let a = c.args.a.now in
     let b = c.args.b.now in
     let n = length_both larger a b (omega arith) in (
-      length-set c.loop-i.out i c.larger-of.result ∙ c.loop-i.invariant.0,
-      built_more c.loop-i.out (both larger a b) i c.larger-of.result None (omega arith) (omega arith) c.loop-i.invariant.1
-          (c.larger-of.ensures ∙ sym (getD_both larger a b i None (omega arith) (omega arith))),
+      length-set c.loop-i.out i c.larger_of.result ∙ c.loop-i.invariant.0,
+      built_more c.loop-i.out (both larger a b) i c.larger_of.result None (omega arith) (omega arith) c.loop-i.invariant.1
+          (c.larger_of.ensures ∙ sym (getD_both larger a b i None (omega arith) (omega arith))),
     )
 
 pub returns : goal.returns
