@@ -25,7 +25,7 @@ invariant_of-result c =
     let t = contents c.args.task.now in
     let few = few_blocks t c.parameters.ensures.legal in
     let long = ap length c.blocks-blocks.ensures.value in
-    (omega arith, (ap length c.loop-i.invariant ∙ length_filled 64 _, tt))
+    record { few = omega arith; room = ap length c.loop-i.invariant ∙ length_filled 64 _ }
 
 pub returns : goal.returns
 returns c =
