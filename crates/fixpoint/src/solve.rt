@@ -1,6 +1,6 @@
 // The solver: rounds over a table with a row for each point, until one changes nothing.
 ghost use Rattle.std.specs.Prelude.{◌≡◌, ◌<◌, ◌≤◌, true, false, length, replicate, ◌≢◌};
-ghost use Rattle.std.specs.List.{AllByRecursion as All};
+ghost use Rattle.std.specs.List.{AllByRecursion};
 ghost use Rattle.task.specs.Meaning.{all_contents};
 ghost use Rattle.fixpoint.specs.Rounds.{after_rounds, job_of, merged, round};
 ghost use Rattle.fixpoint.specs.Settled.{Settled};
@@ -23,7 +23,7 @@ pub(crate) fn run<K: RowKind>(
     requires noted { length notes.now ≡ length points.now }
     requires filled { length rows.old ≡ length points.now }
     ensures value { rows.new ≡ after_rounds (K.meaning kind.now) (job_of direction (all_contents points.now) notes.now) result }
-    ensures settled { All (K.meaning kind.now).own_note notes.now → Settled (K.meaning kind.now) (job_of direction (all_contents points.now) notes.now) result rows.new }
+    ensures settled { AllByRecursion (K.meaning kind.now).own_note notes.now → Settled (K.meaning kind.now) (job_of direction (all_contents points.now) notes.now) result rows.new }
 {
     begin(kind, rows);
     let most = points.len() as u64 * kind.height() as u64 + 1;
