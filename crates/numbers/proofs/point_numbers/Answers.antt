@@ -5,26 +5,26 @@ use Rattle.numbers.proofs.Adding.{added, numbers_few}
 use Rattle.numbers.proofs.Limits.{limits}
 use Rattle.numbers.proofs.point_numbers.Goals as goal
 
-pub overflow-add-sums : goal.overflow-add-sums
-overflow-add-sums c =
+pub overflow_add-sums : goal.overflow_add-sums
+overflow_add-sums c =
     let most = limits (contents c.args.task.now) c.parameters-cache.ensures.legal in
     let few = numbers_few _ _ c.loop-s.s most c.loop-s.sums c.loop-s.invariant in
     omega arith
 
-pub overflow-add-sums-in-loop-s : goal.overflow-add-sums-in-loop-s
-overflow-add-sums-in-loop-s c =
+pub overflow_add-sums-in-loop-s : goal.overflow_add-sums-in-loop-s
+overflow_add-sums-in-loop-s c =
     let most = limits (contents c.args.task.now) c.parameters-cache.ensures.legal in
     let few = numbers_few _ _ c.loop-s.s most c.loop-s.sums c.loop-s.invariant in
     omega arith
 
-pub overflow-add-sums-in-loop-s-2 : goal.overflow-add-sums-in-loop-s-2
-overflow-add-sums-in-loop-s-2 c =
+pub overflow_add-sums-in-loop-s-2 : goal.overflow_add-sums-in-loop-s-2
+overflow_add-sums-in-loop-s-2 c =
     let most = limits (contents c.args.task.now) c.parameters-cache.ensures.legal in
     let few = numbers_few _ _ c.loop-s.s most c.loop-s.sums c.loop-s.invariant in
     omega arith
 
-pub overflow-add-sums-in-loop-s-3 : goal.overflow-add-sums-in-loop-s-3
-overflow-add-sums-in-loop-s-3 c =
+pub overflow_add-sums-in-loop-s-3 : goal.overflow_add-sums-in-loop-s-3
+overflow_add-sums-in-loop-s-3 c =
     let most = limits (contents c.args.task.now) c.parameters-cache.ensures.legal in
     let few = numbers_few _ _ c.loop-s.s most c.loop-s.sums c.loop-s.invariant in
     omega arith

@@ -23,8 +23,8 @@ loop-block-preserved c =
     set ∙ ap (λ (bs : List ℕ). set_of t.sets (get_or bs c.loop-block.block-index 0)) c.evicting-block-items.ensures in
     counted_in c.loop-block.counts (is_evicting_in t) c.loop-block.block-index c.loop-block.invariant c.set_of.result (inside c) (eq-eqb _ _ (sym home)) (λ s ne. ne_eqb _ _ (λ e. ne (home ∙ e)))
 
-pub overflow-add-counts : goal.overflow-add-counts
-overflow-add-counts c =
+pub overflow_add-counts : goal.overflow_add-counts
+overflow_add-counts c =
     let t = contents c.args.task.now in
     let few = count_within c.loop-block.counts (is_evicting_in t) c.loop-block.block-index c.loop-block.invariant c.set_of.result (inside c) in
     let most = limits t c.parameters-limits.ensures.legal in

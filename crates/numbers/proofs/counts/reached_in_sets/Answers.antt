@@ -44,8 +44,8 @@ loop-i-preserved c =
           ])
     ]
 
-pub overflow-add-counts : goal.overflow-add-counts
-overflow-add-counts c =
+pub overflow_add-counts : goal.overflow_add-counts
+overflow_add-counts c =
     let t = contents c.args.task.now in
     let within = set_within t (get_or c.blocks-b-items.result.now c.loop-i.i 0) (limits t c.parameters-ways.ensures.legal) in
     let few = count_within c.loop-i.counts (is_reached_in t (view c.args.ages.now c.args.reuses.now c.args.uses.now)) c.loop-i.i c.loop-i.invariant c.set_of-set.result (omega arith) in

@@ -32,8 +32,8 @@ loop-i-preserved c =
           (block_left t.sets blocks c.loop-i.counts (λ _. pass) i c.loop-i.invariant (set_of t.sets (get_or blocks i 0)) refl (sym tests ∙ w.if-is_useful.false))
     ]
 
-pub overflow-add-counts : goal.overflow-add-counts
-overflow-add-counts c =
+pub overflow_add-counts : goal.overflow_add-counts
+overflow_add-counts c =
     let t = contents c.args.task.now in
     let within = set_within t (get_or c.blocks-b-items.result.now c.loop-i.i 0) (limits t c.parameters-ways.ensures.legal) in
     let few = count_within c.loop-i.counts (is_useful_in t c.args.ages.now c.args.reuses.now) c.loop-i.i c.loop-i.invariant c.set_of.result (omega arith) in

@@ -10,8 +10,8 @@ pub loop-c-preserved-then-c-eq32 : goal.loop-c-preserved-then-c-eq32
 loop-c-preserved-then-c-eq32 c =
     blank_more c.args.hex.now _ c.loop-c.c-index _ c.loop-c.invariant c.loop-c-test.true c.if-c-eq32.true
 
-pub overflow-add-first : goal.overflow-add-first
-overflow-add-first c =
+pub overflow_add-first : goal.overflow_add-first
+overflow_add-first c =
     let first : c.in-Some-high.first < 16 = held_small c.args.hex.now _ c.loop-c.c-index _ c.loop-c.invariant _ c.in-Some-high.is in
     let digit : c.in-Some.digit < 16 = digit_small (get_or c.args.hex.now c.loop-c.c-index 0) _ (sym c.digit_from.ensures ∙ c.in-Some.is) in
     omega arith

@@ -49,8 +49,8 @@ returns-in-Err c =
     let taken = c.in_ok-taken.taken in
     refused_here c.args.file.now c.fields.place c.fields.rest.now (draft_contents c.fields.draft) c.fields.invariant (field_contents taken.field) taken.place taken.after.now (sym c.in_ok-taken.ensures) _ (sym c.in-Err.ensures.step)
 
-pub overflow-sub-place : goal.overflow-sub-place
-overflow-sub-place c =
+pub overflow_sub-place : goal.overflow_sub-place
+overflow_sub-place c =
     let taken = c.in_ok-taken.taken in
     omega (arith, (field_lengths c.fields.place c.fields.rest.now (field_contents taken.field) taken.place taken.after.now (sym c.in_ok-taken.ensures)).1)
 

@@ -33,8 +33,8 @@ put_last-requires c =
     let f = second_fits (points_bytes c.points.result.now) (last t) _ c.args.out.now c.put_points-at.new.out c.put_points-at.result (parts c.points.result.now t c.points.ensures) c.requires c.put_points-at.ensures in
     omega arith
 
-pub overflow-add-result : goal.overflow-add-result
-overflow-add-result c =
+pub overflow_add-result : goal.overflow_add-result
+overflow_add-result c =
     let t = contents c.args.task.now in
     let b = ap (λ (bs : List ℕ). length (flat_map field_bytes (last_fields bs))) c.evicting.ensures in
     let n = ap length (parts c.points.result.now t c.points.ensures) in
