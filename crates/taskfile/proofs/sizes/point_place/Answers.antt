@@ -1,11 +1,11 @@
-use Rattle.std.proofs.Common.{◌≡◌, ℕ, ◌-◌, length, take, sym, ap, ◌∙◌, arith, length-take}
+use Rattle.std.proofs.Common.{◌≡◌, ◌-◌, length, take, ap, arith, length-take}
 use Rattle.std.proofs.lemmas.List.{drop_all}
 use Rattle.task.specs.declared.point.Point.{Point}
 use Rattle.taskfile.proofs.PointBytes.{point_bytes, points_bytes, place_of, points_small, left_more}
 use Rattle.taskfile.proofs.sizes.point_place.Goals as goal
 
-pub overflow-add-place : goal.overflow-add-place
-overflow-add-place c =
+pub overflow_add-place : goal.overflow_add-place
+overflow_add-place c =
     let p = c.point-item.result in
     let before = take (c.args.k - 0) c.args.points.now in
     let m = left_more before c.loop-point.point-index p c.loop-point-test.true in
