@@ -1,5 +1,4 @@
 pub mod Lists
 pub mod Rows
 pub mod RowLaws
-pub mod Matching
 pub mod Tells

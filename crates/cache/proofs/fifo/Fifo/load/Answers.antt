@@ -14,8 +14,8 @@ admit-hit-requires c =
     let room : s.sets ≤ length s.lists = omega arith in
     record { some = s.some_ways; few = s.few_ways; fits = list_fits s.sets s.ways c.args.block s.lists _ s.some_sets room s.row }
 
-pub invariant-of-self : goal.invariant-of-self
-invariant-of-self c =
+pub invariant_of-self : goal.invariant_of-self
+invariant_of-self c =
     let s = c.args.self.now in
     let b = c.args.block in
     let row = row_of s.sets s.lists in

@@ -8,8 +8,8 @@ access-hit-requires c =
     let m : c.args.block % s.sets < s.sets = mod-lt c.args.block s.some in
     record { size = s.size; fits = fit_at s.ways s.lines (c.args.block % s.sets) _ (omega arith) s.fits }
 
-pub invariant-of-self : goal.invariant-of-self
-invariant-of-self c =
+pub invariant_of-self : goal.invariant_of-self
+invariant_of-self c =
     let s = c.args.self.now in
     let b = c.args.block in
     let m : b % s.sets < s.sets = mod-lt b s.some in
