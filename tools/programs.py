@@ -3,7 +3,7 @@ import os, subprocess, sys
 
 ROOT = os.path.dirname(os.path.dirname(os.path.abspath(__file__)))
 NAMES = "crpd", "replay"
-OURS = {name: f"{ROOT}/target/bin/{name}" for name in NAMES}
+OURS = {name: f"{ROOT}/crates/{name}/out/{name}" for name in NAMES}
 REFERENCE = {name: f"{ROOT}/target/reference/{name}" for name in NAMES}
 
 
@@ -11,7 +11,7 @@ def make_ready():
     """Builds the reference where it is missing or older than its sources; ends with status 2 where ours is not built."""
     for name, path in OURS.items():
         if not os.access(path, os.X_OK):
-            print(f"target/bin/{name} is missing: run ./{name} once, which builds it", file=sys.stderr)
+            print(f"crates/{name}/out/{name} is missing: run ./{name} once, which builds it", file=sys.stderr)
             sys.exit(2)
     sources = f"{ROOT}/reference"
     newest = max(os.path.getmtime(f"{sources}/{f}") for f in os.listdir(sources))

@@ -1,11 +1,11 @@
 -- The bytes that a field was taken from are the field's bytes. Assumes nothing.
-use Rattle.std.proofs.Common.{◌≡◌, ℕ, ◌+◌, ◌*◌, ◌/◌, ◌%◌, ◌<◌, ◌≤◌, Bool, true, false, cond, eqb, leb, List, [], ◌∷◌, ◌++◌, length, get_or, take, drop, Some, None, Option, sym, refl, ap, ◌∙◌, subst, arith, length-drop, take-append-drop, length-take}
+use Rattle.std.proofs.Common.{◌≡◌, ℕ, ◌+◌, ◌*◌, ◌/◌, ◌%◌, ◌<◌, Bool, true, false, cond, leb, List, [], ◌∷◌, ◌++◌, length, take, drop, Some, None, Option, sym, refl, ap, ◌∙◌, arith, take-append-drop, length-take}
 use Rattle.std.specs.List.{AllByRecursion as All}
 use Rattle.std.proofs.lemmas.Bool.{leb-true, eqb-true}
 use Rattle.std.proofs.lemmas.Bool.Decides.{nat_tests}
 use Rattle.fields.specs.declared.tag.Tag.{Tag}
 use Rattle.fields.specs.declared.tag.Tag.TheVariants as tags
-use Rattle.fields.specs.Layout.{FieldContents, header, point, evicting, end, FieldAt, field, fault, tag_of, allows, contents_of, judged, field_at, with_head, field_bytes}
+use Rattle.fields.specs.Layout.{FieldContents, field, fault, tag_of, allows, contents_of, judged, field_at, with_head, field_bytes}
 
 abbrev code : Tag → ℕ
 code tags.Header = 1

@@ -1,11 +1,11 @@
 -- How much of the bytes a field takes. Assumes nothing.
-use Rattle.std.proofs.Common.{◌≡◌, ℕ, ◌+◌, ◌*◌, ◌≤◌, Bool, true, false, cond, eqb, leb, List, [], ◌∷◌, length, get_or, take, drop, Some, None, Option, sym, refl, ap, ◌∙◌, subst, arith, length-drop, length-take}
+use Rattle.std.proofs.Common.{◌≡◌, ℕ, ◌+◌, ◌*◌, Bool, true, false, cond, leb, List, [], ◌∷◌, length, take, drop, Some, None, Option, sym, refl, ap, ◌∙◌, arith, length-drop, length-take}
 use Rattle.std.proofs.lemmas.List.{length-take-le}
 use Rattle.std.proofs.lemmas.Bool.{leb-true, eqb-true}
 use Rattle.std.proofs.lemmas.Bool.Decides.{nat_tests}
 use Rattle.fields.specs.declared.tag.Tag.{Tag}
 use Rattle.fields.specs.declared.tag.Tag.TheVariants as tags
-use Rattle.fields.specs.Layout.{FieldContents, header, point, evicting, end, FieldAt, field, fault, tag_of, allows, contents_of, judged, field_at, body_length, sized}
+use Rattle.fields.specs.Layout.{FieldContents, field, fault, tag_of, allows, contents_of, judged, field_at, body_length, sized}
 
 contents_length : (t : Tag) (n : ℕ) (xs : List ℕ) → allows t n ≡ true → length xs ≡ n → body_length (contents_of t xs) ≡ n
 contents_length tags.Header n xs h e = e

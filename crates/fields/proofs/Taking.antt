@@ -1,8 +1,8 @@
 -- What a field is, from what was tested of it. Assumes nothing.
-use Rattle.std.proofs.Common.{◌≡◌, ℕ, ◌+◌, ◌*◌, ◌≤◌, Bool, true, false, cond, leb, List, [], ◌∷◌, length, get_or, take, drop, Some, None, Option, sym, refl, ap, ◌∙◌, subst, arith}
+use Rattle.std.proofs.Common.{◌≡◌, ℕ, ◌+◌, ◌*◌, ◌≤◌, true, List, [], ◌∷◌, length, get_or, take, drop, Some, sym, refl, ◌∙◌, arith}
 use Rattle.std.proofs.lemmas.Bool.{le-leb}
 use Rattle.fields.specs.declared.tag.Tag.{Tag}
-use Rattle.fields.specs.Layout.{FieldContents, FieldAt, field, fault, tag_of, allows, contents_of, judged, field_at}
+use Rattle.fields.specs.Layout.{FieldContents, field, tag_of, allows, contents_of, judged, field_at}
 
 pub opened : (place : ℕ) (bs : List ℕ) → 3 ≤ length bs → field_at place bs ≡ judged place (tag_of (get_or bs 0 0)) (get_or bs 1 0 * 256 + get_or bs 2 0) (drop 3 bs)
 opened place [] h = absurd (omega arith)

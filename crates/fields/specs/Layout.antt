@@ -1,5 +1,5 @@
 -- The layout of a field: a byte of tag, two bytes of length, high byte first, and the body.
-use Rattle.std.specs.Prelude.{ℕ, ◌+◌, ◌*◌, ◌/◌, ◌%◌, Bool, true, false, cond, ◌&&◌, List, [], ◌∷◌, ◌++◌, length, take, drop, Some, None, Option, ◌==◌, nat_le}
+use Rattle.std.specs.Prelude.{ℕ, ◌+◌, ◌*◌, ◌/◌, ◌%◌, Bool, true, cond, ◌&&◌, List, [], ◌∷◌, length, take, drop, Some, None, Option, ◌==◌, nat_le}
 use Rattle.fields.specs.declared.tag.Tag.{Tag}
 use Rattle.fields.specs.declared.tag.Tag.TheVariants as tags
 

@@ -1,11 +1,11 @@
 -- What a reader knows between two fields. Assumes nothing.
-use Rattle.std.proofs.Common.{◌≡◌, ℕ, zero, suc, ◌+◌, ◌-◌, ◌<◌, ◌≤◌, Bool, true, false, cond, List, [], ◌∷◌, ◌++◌, length, get_or, sym, refl, ap, ◌∙◌, subst, arith}
-use Rattle.std.proofs.lemmas.Bool.{cond-true, cond-false}
+use Rattle.std.proofs.Common.{◌≡◌, ℕ, zero, suc, ◌+◌, ◌-◌, ◌≤◌, true, List, [], ◌∷◌, length, get_or, sym, ap, ◌∙◌, arith}
+use Rattle.std.proofs.lemmas.Bool.{cond-true}
 use Rattle.fields.specs.Layout.{FieldContents, header, FieldAt, field, fault, field_at, body_length}
 use Rattle.fields.proofs.Lengths.{field_lengths}
 use Rattle.task.specs.Contents.{TaskContents}
 use Rattle.task.specs.Legal.{legal_parameters}
-use Rattle.taskformat.specs.Reading.{Outcome, refused, fields_layer, task_layer, Step, taken, ended, wrong, step, closed, reading, begun, meaning, header_of, number_at}
+use Rattle.taskformat.specs.Reading.{refused, fields_layer, task_layer, taken, ended, wrong, step, closed, reading, meaning, header_of, number_at}
 use Rattle.taskformat.proofs.Steps.{after_step, after_field, after_first}
 
 -- what is left to read gives what the whole file gives

@@ -1,8 +1,8 @@
 -- How many bytes the fields of points have. Assumes nothing.
-use Rattle.std.proofs.Common.{◌≡◌, ℕ, ◌+◌, ◌*◌, ◌<◌, ◌≤◌, List, [], ◌∷◌, ◌++◌, map, length, get_or, take, drop, Some, None, Option, sym, refl, ap, ◌∙◌, arith, length-append, length-take}
+use Rattle.std.proofs.Common.{◌≡◌, ℕ, ◌+◌, ◌*◌, ◌<◌, ◌≤◌, List, [], ◌∷◌, ◌++◌, map, length, get_or, take, drop, Some, None, Option, refl, ap, ◌∙◌, arith, length-append, length-take}
 use Rattle.std.specs.List.{flat_map}
 use Rattle.std.proofs.lemmas.List.{at_drop_more, take-map}
-use Rattle.fields.specs.Layout.{FieldContents, field_bytes}
+use Rattle.fields.specs.Layout.{field_bytes}
 use Rattle.task.specs.Contents.{PointContents}
 use Rattle.task.specs.Meaning.{point_contents, all_contents}
 use Rattle.task.specs.declared.point.Point.{Point}

@@ -1,6 +1,6 @@
 -- What the answers of the reader and the writer say: each case with its number and values.
 use Rattle.std.specs.Prelude.{◌≡◌, ℕ, ◌<◌, Bool, true, false, List, [], ◌++◌, length, drop, Ok, Err, Result, slice_index}
-use Rattle.fields.specs.Layout.{FieldContents, header, point, evicting, end, FieldAt, field, fault, field_at}
+use Rattle.fields.specs.Layout.{header, point, evicting, end, FieldAt, field, fault, field_at}
 use Rattle.fields.specs.Said.{number}
 use Rattle.task.specs.declared.draft.TaskDraft.{TaskDraft}
 use Rattle.task.specs.declared.task.Task.{Task}
@@ -8,7 +8,7 @@ use Rattle.task.specs.Contents.{TaskContents}
 use Rattle.task.specs.Drafts.{draft_contents}
 use Rattle.task.specs.Legal.{legal_parameters}
 use Rattle.task.specs.Tasks.{contents}
-use Rattle.taskformat.specs.Reading.{Layer, fields_layer, task_layer, Outcome, accepted, refused, Step, taken, ended, wrong, header_of, number_at}
+use Rattle.taskformat.specs.Reading.{fields_layer, task_layer, Outcome, accepted, refused, Step, taken, ended, wrong, header_of, number_at}
 use Rattle.taskfile.specs.declared.fault.TaskCause.{TaskCause}
 use Rattle.taskfile.specs.declared.fault.TaskFault.{TaskFault}
 use Rattle.taskfile.specs.declared.fault.TaskFault.TheVariants as faults

@@ -5,7 +5,7 @@ ghost use Rattle.fields.specs.Layout.{evicting as evicting_field, point as point
 ghost use Rattle.fields.specs.Said.{field_contents};
 ghost use Rattle.task.specs.Drafts.{draft_contents};
 ghost use Rattle.task.specs.Meaning.{point_contents};
-ghost use Rattle.taskformat.specs.Reading.{point_of, step as step_of_lem};
+ghost use Rattle.taskformat.specs.Reading.{point_of, step as step_of};
 ghost use Rattle.taskfile.specs.Answers.{KeptUnlessTaken, step_said};
 
 use crate::fault::TaskCause;
@@ -22,7 +22,7 @@ pub enum Progress {
 
 pub(crate) fn step(draft: &mut TaskDraft, field: Field<'_>) -> Result<Progress, TaskCause>
     requires { sized (field_contents field) ≡ true }
-    ensures step { step_said result (draft_contents draft.new) ≡ step_of_lem (draft_contents draft.old) (field_contents field.entry) }
+    ensures step { step_said result (draft_contents draft.new) ≡ step_of (draft_contents draft.old) (field_contents field.entry) }
     ensures kept { KeptUnlessTaken result (draft_contents draft.old) (draft_contents draft.new) }
 {
     match field {
@@ -40,7 +40,7 @@ pub(crate) fn step(draft: &mut TaskDraft, field: Field<'_>) -> Result<Progress, 
 
 fn step_point(draft: &mut TaskDraft, body: &[u8]) -> Result<Progress, TaskCause>
     requires { sized (point_field body.now) ≡ true }
-    ensures step { step_said result (draft_contents draft.new) ≡ step_of_lem (draft_contents draft.old) (point_field body.now) }
+    ensures step { step_said result (draft_contents draft.new) ≡ step_of (draft_contents draft.old) (point_field body.now) }
     ensures kept { KeptUnlessTaken result (draft_contents draft.old) (draft_contents draft.new) }
 {
     if !draft.evicting().is_empty() {
@@ -55,7 +55,7 @@ fn step_point(draft: &mut TaskDraft, body: &[u8]) -> Result<Progress, TaskCause>
 
 fn step_evicting(draft: &mut TaskDraft, body: &[u8]) -> Result<Progress, TaskCause>
     requires { sized (evicting_field body.now) ≡ true }
-    ensures step { step_said result (draft_contents draft.new) ≡ step_of_lem (draft_contents draft.old) (evicting_field body.now) }
+    ensures step { step_said result (draft_contents draft.new) ≡ step_of (draft_contents draft.old) (evicting_field body.now) }
     ensures kept { KeptUnlessTaken result (draft_contents draft.old) (draft_contents draft.new) }
 {
     if draft.points().is_empty() {

@@ -82,8 +82,8 @@ fn put_point(point: &Point, out: &mut [u8]) -> usize
 
 // A point's field up to its successors.
 fn put_access(access: Option<u32>, successors: u8, out: &mut [u8]) -> usize
-    requires successors_bound { successors ≤ 4 }
-    requires access_in_bounds { 3 + length (access_bytes access) ≤ length out.old }
+    requires few { successors ≤ 4 }
+    requires room { 3 + length (access_bytes access) ≤ length out.old }
     ensures { Filled (2 ∷ (0 ∷ ((length (access_bytes access) + successors) ∷ access_bytes access))) out.old out.new result }
 {
     match access {

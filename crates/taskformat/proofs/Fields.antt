@@ -1,5 +1,5 @@
 -- The bytes of a field begin with that field. Assumes nothing.
-use Rattle.std.proofs.Common.{◌≡◌, ℕ, true, List, [], ◌∷◌, ◌++◌, length, Some, sym, refl, ap, arith, length-append}
+use Rattle.std.proofs.Common.{◌≡◌, ℕ, true, List, [], ◌++◌, length, Some, sym, refl, ap, arith, length-append}
 use Rattle.std.proofs.lemmas.List.{take_at, drop_at}
 use Rattle.fields.specs.declared.tag.Tag.{Tag}
 use Rattle.fields.specs.declared.tag.Tag.TheVariants as tags

@@ -1,6 +1,6 @@
 -- Reading and writing are inverse.
 use Rattle.std.specs.Prelude.{◌≡◌, ℕ, ◌<◌, true, List}
-use Rattle.std.specs.List.{AllByRecursion as All}
+use Rattle.std.specs.List.{AllByRecursion}
 use Rattle.task.specs.Contents.{TaskContents}
 use Rattle.task.specs.Legal.{legal}
 use Rattle.taskformat.specs.Reading.{accepted, meaning}
@@ -12,4 +12,4 @@ RereadingKeepsTheTask = (t : TaskContents) → legal t ≡ true → meaning (tas
 
 -- writing what was read keeps the bytes; so every accepted task has one file
 abbrev pub RewritingKeepsTheBytes : Type 0
-RewritingKeepsTheBytes = (file : List ℕ) (t : TaskContents) → All (λ b. b < 256) file → meaning file ≡ accepted t → task_bytes t ≡ file
+RewritingKeepsTheBytes = (file : List ℕ) (t : TaskContents) → AllByRecursion (λ b. b < 256) file → meaning file ≡ accepted t → task_bytes t ≡ file

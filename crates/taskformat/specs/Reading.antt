@@ -1,6 +1,6 @@
 -- The meaning of a task file: every list of bytes is a task, or is refused.
-use Rattle.std.specs.Prelude.{ℕ, zero, suc, ◌+◌, ◌*◌, Bool, true, false, cond, ◌&&◌, List, [], ◌∷◌, ◌++◌, length, drop, Some, None, Option, ◌==◌, nat_le, slice_index}
-use Rattle.fields.specs.Layout.{FieldContents, header, point, evicting, end, FieldAt, field, fault, field_at, body_length}
+use Rattle.std.specs.Prelude.{ℕ, zero, suc, ◌+◌, ◌*◌, Bool, true, false, cond, ◌&&◌, List, [], ◌∷◌, length, drop, Some, None, Option, ◌==◌, nat_le, slice_index}
+use Rattle.fields.specs.Layout.{FieldContents, header, point, evicting, end, field, fault, field_at, body_length}
 use Rattle.task.specs.Contents.{PointContents, TaskContents, point_with, task_with, add_point, add_evicting}
 use Rattle.task.specs.Legal.{legal_parameters, legal_point, first_open}
 use Rattle.task.specs.Adding.{Verdict, fits, unfit, too_many, point_verdict, evicting_verdict}

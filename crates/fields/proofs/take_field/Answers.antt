@@ -1,4 +1,4 @@
-use Rattle.std.proofs.Common.{◌≡◌, ◌≤◌, length, take, drop, sym, refl, ap, ◌∙◌, arith, length-drop, rules}
+use Rattle.std.proofs.Common.{take, drop, sym, ap, ◌∙◌, length-drop, rules}
 use Rattle.std.proofs.lemmas.List.{take_rest}
 use Rattle.fields.specs.Layout.{contents_of}
 use Rattle.fields.proofs.Taking.{taken}

@@ -1,12 +1,12 @@
-use Rattle.std.proofs.Common.{◌≡◌, ℕ, suc, ◌+◌, ◌<◌, ◌≤◌, Bool, true, false, not, List, [], ◌∷◌, length, Some, None, Option, sym, refl, ap, ◌∙◌, arith}
+use Rattle.std.proofs.Common.{◌≡◌, ℕ, suc, ◌+◌, ◌<◌, Bool, false, not, List, [], ◌∷◌, length, Some, None, Option, sym, refl, ap, ◌∙◌, arith}
 use Rattle.std.proofs.lemmas.List.{length-map}
 use Rattle.std.proofs.lemmas.Bool.{cond-true, le-leb}
 use Rattle.task.specs.Contents.{PointContents, TaskContents}
-use Rattle.task.specs.Adding.{Completion, whole, no_point, open_at, closing, completion}
+use Rattle.task.specs.Adding.{no_point, open_at, closing, completion}
 use Rattle.task.specs.Answers.{cause_said}
 use Rattle.task.specs.Legal.{closed_point, first_open}
 use Rattle.task.specs.Lists.{first_from}
-use Rattle.task.specs.Meaning.{point_contents, all_contents}
+use Rattle.task.specs.Meaning.{point_contents}
 use Rattle.task.specs.Drafts.{draft_contents}
 use Rattle.task.proofs.Drafting.{kept}
 use Rattle.taskformat.specs.Reading.{is_empty}

@@ -1,13 +1,13 @@
-use Rattle.std.proofs.Common.{◌≡◌, ℕ, ◌+◌, length, sym, ap, ◌∙◌, subst, arith}
+use Rattle.std.proofs.Common.{◌≡◌, ◌+◌, length, sym, ap, ◌∙◌, subst, arith}
 use Rattle.std.proofs.lemmas.Result.{err_from_is_err_and}
 use Rattle.std.proofs.lemmas.Bool.{eqb-true}
-use Rattle.fields.specs.Layout.{FieldContents, header, field, field_at}
+use Rattle.fields.specs.Layout.{header, field, field_at}
 use Rattle.fields.specs.Said.{field_contents}
 use Rattle.fields.specs.declared.Field.{Field}
 use Rattle.fields.proofs.Lengths.{field_lengths, field_sized}
 use Rattle.task.specs.Contents.{TaskContents}
 use Rattle.task.specs.Drafts.{draft_contents}
-use Rattle.taskformat.specs.Reading.{Outcome, closed, is_empty}
+use Rattle.taskformat.specs.Reading.{closed, is_empty}
 use Rattle.taskfile.proofs.Answering.{answered_as}
 use Rattle.taskfile.proofs.Fieldwise.{Sofar, started, faulted, refused_here, ended_here, taken_here}
 use Rattle.taskfile.proofs.Stepping.{ended_after_point, ended_said, taken_said}
@@ -64,4 +64,4 @@ fields-preserved c =
     let taken = c.in_ok-taken.taken in
     let u = draft_contents c.step.new.draft in
     taken_here c.args.file.now c.fields.place c.fields.rest.now (draft_contents c.fields.draft) c.fields.invariant (field_contents taken.field) taken.place taken.after.now (sym c.in_ok-taken.ensures) u
-    (sym (taken_said c.in-Ok.progress u _ c.in-default-progress.is c.in-Ok.ensures.step))
+    (sym (taken_said c.in-Ok.progress u _ c.in_default-progress.is c.in-Ok.ensures.step))

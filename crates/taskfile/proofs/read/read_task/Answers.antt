@@ -1,6 +1,5 @@
 use Rattle.std.proofs.Common.{◌<◌, arith}
 use Rattle.std.proofs.ByRecursion.{All-from_get_or}
-use Rattle.task.specs.Contents.{TaskContents}
 use Rattle.taskformat.proofs.Rewriting.{rewriting_keeps_the_bytes}
 use Rattle.taskfile.proofs.Answering.{accepted_made}
 use Rattle.taskfile.proofs.read.read_task.Goals as goal

@@ -1,4 +1,4 @@
-use Rattle.std.proofs.Common.{◌≡◌, ℕ, ◌-◌, length, take, sym, ap, ◌∙◌, arith, length-take}
+use Rattle.std.proofs.Common.{◌≡◌, ◌-◌, length, take, ap, arith, length-take}
 use Rattle.std.proofs.lemmas.List.{drop_all}
 use Rattle.task.specs.declared.point.Point.{Point}
 use Rattle.taskfile.proofs.PointBytes.{point_bytes, points_bytes, place_of, points_small, left_more}

@@ -1,5 +1,5 @@
 use Rattle.std.proofs.Common.{sym, refl, ap, ◌∙◌}
-use Rattle.fields.specs.Layout.{FieldContents, end}
+use Rattle.fields.specs.Layout.{FieldContents}
 use Rattle.fields.specs.Said.{field_contents}
 use Rattle.task.specs.Drafts.{draft_contents}
 use Rattle.taskformat.specs.Reading.{step}

@@ -1,4 +1,4 @@
-use Rattle.std.proofs.Common.{◌≡◌, ℕ, List, [], ◌∷◌, ◌++◌, length, ap}
+use Rattle.std.proofs.Common.{ℕ, List, ap}
 use Rattle.std.proofs.lemmas.List.{take_all}
 use Rattle.fields.specs.Layout.{field_bytes}
 use Rattle.taskformat.specs.Writing.{evicting_field}

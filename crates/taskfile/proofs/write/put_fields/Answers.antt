@@ -1,4 +1,4 @@
-use Rattle.std.proofs.Common.{◌≡◌, ℕ, List, ◌++◌, map, length, ap, arith, length-append}
+use Rattle.std.proofs.Common.{◌≡◌, ℕ, List, ◌++◌, length, ap, arith, length-append}
 use Rattle.fields.specs.Layout.{field_bytes}
 use Rattle.std.specs.List.{flat_map}
 use Rattle.task.specs.Contents.{TaskContents}
@@ -20,11 +20,11 @@ parts shown t e = points_first shown t.points (last_fields t.evicting) e
 pub put_points-at-requires : goal.put_points-at-requires
 put_points-at-requires c = let t = contents c.args.task.now in first_fits (points_bytes c.points.result.now) (last t) _ c.args.out.now (parts c.points.result.now t c.points.ensures) c.requires
 
-pub slice-bounds-put_last-count : goal.slice-bounds-put_last-count
-slice-bounds-put_last-count c = filled_within _ c.args.out.now c.put_points-at.new.out c.put_points-at.result c.put_points-at.ensures
+pub slice_bounds-put_last-count : goal.slice_bounds-put_last-count
+slice_bounds-put_last-count c = filled_within _ c.args.out.now c.put_points-at.new.out c.put_points-at.result c.put_points-at.ensures
 
-pub slice-bounds-put_last-start : goal.slice-bounds-put_last-start
-slice-bounds-put_last-start c = filled_within _ c.args.out.now c.put_points-at.new.out c.put_points-at.result c.put_points-at.ensures
+pub slice_bounds-put_last-start : goal.slice_bounds-put_last-start
+slice_bounds-put_last-start c = filled_within _ c.args.out.now c.put_points-at.new.out c.put_points-at.result c.put_points-at.ensures
 
 pub put_last-requires : goal.put_last-requires
 put_last-requires c =

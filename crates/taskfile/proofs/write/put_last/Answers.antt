@@ -5,11 +5,11 @@ use Rattle.taskfile.proofs.write.put_last.Goals as goal
 pub put_evicting-at-requires : goal.put_evicting-at-requires
 put_evicting-at-requires c = let blocks = c.args.blocks.now in first_fits (evicting_bytes blocks) (4 ∷ 0 ∷ 0 ∷ []) _ c.args.out.now (last_bytes blocks) c.requires
 
-pub slice-bounds-put-count : goal.slice-bounds-put-count
-slice-bounds-put-count c = filled_within _ c.args.out.now c.put_evicting-at.new.out c.put_evicting-at.result c.put_evicting-at.ensures
+pub slice_bounds-put-count : goal.slice_bounds-put-count
+slice_bounds-put-count c = filled_within _ c.args.out.now c.put_evicting-at.new.out c.put_evicting-at.result c.put_evicting-at.ensures
 
-pub slice-bounds-put-start : goal.slice-bounds-put-start
-slice-bounds-put-start c = filled_within _ c.args.out.now c.put_evicting-at.new.out c.put_evicting-at.result c.put_evicting-at.ensures
+pub slice_bounds-put-start : goal.slice_bounds-put-start
+slice_bounds-put-start c = filled_within _ c.args.out.now c.put_evicting-at.new.out c.put_evicting-at.result c.put_evicting-at.ensures
 
 pub put-requires : goal.put-requires
 put-requires c = let blocks = c.args.blocks.now in second_fits (evicting_bytes blocks) (4 ∷ 0 ∷ 0 ∷ []) _ c.args.out.now c.put_evicting-at.new.out c.put_evicting-at.result (last_bytes blocks) c.requires c.put_evicting-at.ensures

@@ -1,4 +1,4 @@
-use Rattle.std.proofs.Common.{◌≡◌, ℕ, ◌+◌, ◌-◌, ◌/◌, ◌%◌, ◌≤◌, List, [], ◌∷◌, ◌++◌, length, take, Some, None, Option, ap, ◌∙◌, arith, length-append, length-take}
+use Rattle.std.proofs.Common.{◌≡◌, ℕ, ◌+◌, ◌/◌, ◌%◌, ◌≤◌, List, ◌∷◌, ◌++◌, length, take, Some, None, Option, ap, ◌∙◌, arith, length-append, length-take}
 use Rattle.fields.specs.Layout.{with_head}
 use Rattle.taskformat.specs.Writing.{access_bytes}
 use Rattle.taskfile.proofs.Filling.{two_parts}
@@ -31,4 +31,4 @@ returns c =
     fronted access successors (access_short access) four
     ∙ ap (λ (a : Option ℕ). with_head 2 (access_bytes a ++ successors)) c.access.ensures
     ∙ ap (λ (ss : List ℕ). with_head 2 (access_bytes p.access ++ ss)) c.successors-successors.ensures in
-    two_parts (front access (length successors)) successors _ before c.put-access_at.new.out c.put.new.out c.put-access_at.result c.put.result same c.requires c.put-access_at.ensures c.put.ensures
+    two_parts (front access (length successors)) successors _ before c.put_access-at.new.out c.put.new.out c.put_access-at.result c.put.result same c.requires c.put_access-at.ensures c.put.ensures

@@ -1,4 +1,4 @@
-use Rattle.std.proofs.Common.{◌≡◌, ℕ, ◌≤◌, length, ap, arith}
+use Rattle.std.proofs.Common.{length, ap, arith}
 use Rattle.std.proofs.lemmas.List.{take_all}
 use Rattle.task.specs.declared.point.Point.{Point}
 use Rattle.taskfile.proofs.PointBytes.{point_bytes, points_bytes}
