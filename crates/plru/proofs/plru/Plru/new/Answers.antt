@@ -8,10 +8,10 @@ use Rattle.plru.proofs.plru.Plru.new.Goals as goal
 sized : (ways : ℕ) → ((ways ≡ 2 → ⊥) × (ways ≡ 4 → ⊥) × (ways ≡ 8)) ⊎ (((ways ≡ 2 → ⊥) × (ways ≡ 4)) ⊎ (ways ≡ 2)) → is_tree ways ≡ true
 sized ways e = grind (arith, nat_tests)
 
-pub invariant-of-result : goal.invariant-of-result
-invariant-of-result c =
+pub invariant_of-result : goal.invariant_of-result
+invariant_of-result c =
     let e = empty_count c.empty-empty.result c.empty-empty.ensures in
-    (omega arith, (omega arith, (sized c.args.ways c.else-ways-ne2.either, (refl, (fit_replicate c.args.ways 64 c.empty-empty.result (omega arith), tt)))))
+    record { some = omega arith; few = omega arith; size = sized c.args.ways c.else-ways-ne2.either; room = refl; fits = fit_replicate c.args.ways 64 c.empty-empty.result (omega arith) }
 
 pub returns : goal.returns
 returns c =
