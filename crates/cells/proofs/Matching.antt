@@ -1,23 +1,15 @@
--- `==` on arrays whose cells' `==` tells whether they are equal. Assumes nothing.
-use Rattle.std.proofs.Common.{◌≡◌, Bool, true, false, ◌⊎◌, List, [], ◌∷◌, Decides, inl, inr}
-use Rattle.std.specs.Cmp.Lexicographic.{Matches, Same, Apart}
+-- `==` on arrays of cells that may be none, where `==` on what a cell has tells whether it is equal. Assumes nothing.
+use Rattle.std.proofs.Common.{◌≡◌, Bool, Some, None, Option, List, Decides, refl, ap}
+use Rattle.std.specs.Option.{option_eq}
 use Rattle.std.proofs.lemmas.Slice.Eq.{slice_eq-Decides}
-use Rattle.std.proofs.lemmas.Bool.Decides.{Decides-eqb}
+use lib.Pointwise.{pointwise}
 
-module _ {K : Type 0} (E : K → K → Bool → Type 0) (each : (x y : K) (r : Bool) → E x y r → Decides r (x ≡ y)) where
-  same : (xs ys : List K) → Same E xs ys → Same (λ (a b : K) (t : Bool). Decides t (a ≡ b)) xs ys
-  same [] [] h = tt
-  same [] (y ∷ ys) h = h
-  same (x ∷ xs) [] h = h
-  same (x ∷ xs) (y ∷ ys) h = (each x y true h.0, same xs ys h.1)
+module _ {K : Type 0} (E : K → K → Bool) (each : (x y : K) → Decides (E x y) (x ≡ y)) where
+  cells_match : (x y : Option K) → Decides (option_eq E x y) (x ≡ y)
+  cells_match None None = (λ _. refl, λ _. refl)
+  cells_match None (Some t) = (λ e. absurd (cc), λ e. absurd (cc))
+  cells_match (Some s) None = (λ e. absurd (cc), λ e. absurd (cc))
+  cells_match (Some s) (Some t) = (λ e. ap Some ((each s t).0 e), λ e. (each s t).1 (cc))
 
-  apart : (xs ys : List K) → Apart E xs ys → Apart (λ (a b : K) (t : Bool). Decides t (a ≡ b)) xs ys
-  apart [] ys h = h
-  apart (x ∷ xs) [] h = h
-  apart (x ∷ xs) (y ∷ ys) (inl h) = inl (each x y false h)
-  apart (x ∷ xs) (y ∷ ys) (inr h) = inr (apart xs ys h)
-
-  pub matches_by : (xs ys : List K) (r : Bool) → Matches E xs ys r → Decides r (xs ≡ ys)
-  matches_by xs ys true h = slice_eq-Decides Decides-eqb xs ys true (h.0, same xs ys h.1)
-  matches_by xs ys false (inl h) = slice_eq-Decides Decides-eqb xs ys false (inl h)
-  matches_by xs ys false (inr h) = slice_eq-Decides Decides-eqb xs ys false (inr (apart xs ys h))
+  pub matches_by : (xs ys : List (Option K)) (r : Bool) → r ≡ pointwise (option_eq E) xs ys → Decides r (xs ≡ ys)
+  matches_by xs ys r h = slice_eq-Decides cells_match xs ys r h

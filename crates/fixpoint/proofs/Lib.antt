@@ -6,3 +6,4 @@ pub mod Ranks
 pub mod Still
 pub mod Settling
 pub mod Always
+pub mod Value

@@ -1,5 +1,5 @@
 -- After an idle round the table stays as it is. Assumes nothing.
-use Rattle.std.proofs.Common.{◌≡◌, ℕ, zero, suc, ◌+◌, ◌-◌, ◌*◌, ◌≤◌, List, sym, ap, ◌∙◌, arith}
+use Rattle.std.proofs.Common.{◌≡◌, ℕ, zero, suc, ◌+◌, ◌-◌, ◌*◌, ◌≤◌, sym, ap, ◌∙◌, arith}
 use Rattle.fixpoint.specs.Kinds.{Meaning}
 use Rattle.fixpoint.specs.Rounds.{Job, size, round, after_rounds}
 use Rattle.fixpoint.specs.Settled.{settled_table}

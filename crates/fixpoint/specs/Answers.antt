@@ -1,6 +1,6 @@
 -- What the solver answers.
 use Rattle.std.specs.Prelude.{◌≡◌, ℕ, ◌<◌, ◌≤◌, ◌⊎◌, List, length, take, drop, Ok, Err, Result}
-use Rattle.std.specs.List.{AllByRecursion as All}
+use Rattle.std.specs.List.{AllByRecursion}
 use Rattle.task.specs.Contents.{TaskContents}
 use Rattle.fixpoint.specs.Kinds.{Meaning}
 use Rattle.fixpoint.specs.Rounds.{Job, job_of, after_rounds}
@@ -18,7 +18,7 @@ pub record Solved {Row Note : Type 0} (M : Meaning Row Note) (direction : Direct
   pub noted : length t.points ≤ length notes
   pub value : take (length t.points) after ≡ after_rounds M (job direction t notes) rounds
   pub rest : drop (length t.points) after ≡ drop (length t.points) before
-  pub settled : All M.own_note (job direction t notes).notes → Settled M (job direction t notes) rounds (take (length t.points) after)
+  pub settled : AllByRecursion M.own_note (job direction t notes).notes → Settled M (job direction t notes) rounds (take (length t.points) after)
 
 -- fewer rows or notes than points: the table stays
 pub record TooShort {Row Note : Type 0} (t : TaskContents) (notes : List Note) (before after : List Row) : Type 0 where

@@ -1,6 +1,6 @@
 -- What a settled table is.
 use Rattle.std.specs.Prelude.{◌≡◌, ℕ, suc, ◌+◌, ◌*◌, ◌<◌, ◌≤◌, true, List, length, ◌≢◌, slice_index_or}
-use Rattle.std.specs.List.{AllByRecursion as All}
+use Rattle.std.specs.List.{AllByRecursion}
 use Rattle.fixpoint.specs.Kinds.{Meaning}
 use Rattle.fixpoint.specs.Graph.{is_input}
 use Rattle.fixpoint.specs.Rounds.{Job, size, advanced, merged, after_rounds}
@@ -9,7 +9,7 @@ module _ {Row Note : Type 0} (M : Meaning Row Note) (J : Job Note) where
   -- a table of own rows, one for each point
   pub record OwnTable (rows : List Row) : Type 0 where
     pub long : length rows ≡ size J
-    pub own : All M.own_row rows
+    pub own : AllByRecursion M.own_row rows
 
   -- the rules: at each point the row is the merge over its inputs
   abbrev pub MeetsTheRules : List Row → Type 0

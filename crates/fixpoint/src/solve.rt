@@ -1,6 +1,6 @@
 // The solver: rounds over a table with a row for each point, until one changes nothing.
 ghost use Rattle.std.specs.Prelude.{◌≡◌, ◌<◌, ◌≤◌, true, false, length, replicate, ◌≢◌};
-ghost use Rattle.std.specs.List.{AllByRecursion as All};
+ghost use Rattle.std.specs.List.{AllByRecursion};
 ghost use Rattle.task.specs.Meaning.{all_contents};
 ghost use Rattle.fixpoint.specs.Rounds.{after_rounds, job_of, merged, round};
 ghost use Rattle.fixpoint.specs.Settled.{Settled};
@@ -22,8 +22,8 @@ pub(crate) fn run<K: RowKind>(
     requires few { length points.now ≤ 128 }
     requires noted { length notes.now ≡ length points.now }
     requires filled { length rows.old ≡ length points.now }
-    ensures value { rows.new ≡ after_rounds (meaning kind.now) (job_of direction (all_contents points.now) notes.now) result }
-    ensures settled { All (meaning kind.now).own_note notes.now → Settled (meaning kind.now) (job_of direction (all_contents points.now) notes.now) result rows.new }
+    ensures value { rows.new ≡ after_rounds (K.meaning kind.now) (job_of direction (all_contents points.now) notes.now) result }
+    ensures settled { AllByRecursion (K.meaning kind.now).own_note notes.now → Settled (K.meaning kind.now) (job_of direction (all_contents points.now) notes.now) result rows.new }
 {
     begin(kind, rows);
     let most = points.len() as u64 * kind.height() as u64 + 1;
@@ -37,7 +37,7 @@ pub(crate) fn run<K: RowKind>(
 
 // Gives every point the start row.
 fn begin<K: RowKind>(kind: &K, rows: &mut [K::Row])
-    ensures { rows.new ≡ replicate (length rows.old) (meaning kind.now).start }
+    ensures { rows.new ≡ replicate (length rows.old) (K.meaning kind.now).start }
 {
     let start = kind.start();
     for p in 0..rows.len() {
@@ -55,7 +55,7 @@ fn go_round<K: RowKind>(
 ) -> bool
     requires noted { length notes.now ≡ length points.now }
     requires filled { length rows.old ≡ length points.now }
-    ensures table { rows.new ≡ round (meaning kind.now) (job_of direction (all_contents points.now) notes.now) rows.old }
+    ensures table { rows.new ≡ round (K.meaning kind.now) (job_of direction (all_contents points.now) notes.now) rows.old }
     ensures idle { result ≡ false → rows.new ≡ rows.old }
     ensures moved { result ≡ true → rows.new ≢ rows.old }
 {
@@ -82,7 +82,7 @@ fn gather<K: RowKind>(
     requires noted { length notes.now ≡ length points.now }
     requires filled { length rows.now ≡ length points.now }
     requires inside { p < length points.now }
-    ensures { result ≡ merged (meaning kind.now) (job_of direction (all_contents points.now) notes.now) rows.now p }
+    ensures { result ≡ merged (K.meaning kind.now) (job_of direction (all_contents points.now) notes.now) rows.now p }
 {
     let mut all = kind.start();
     for q in 0..points.len() {

@@ -43,7 +43,7 @@ impl<'a, R: Copy> Table<'a, R> {
         direction: Direction,
         notes: &[K::Note],
     ) -> Result<u64, ShortTable>
-        ensures answer { Answer (meaning kind.now) direction (contents task.now) notes.now self.old.rows.now self.new.rows.now result }
+        ensures answer { Answer (K.meaning kind.now) direction (contents task.now) notes.now self.old.rows.now self.new.rows.now result }
         ensures lent { self.new.rows.ghost_name ≡ self.old.rows.ghost_name }
     {
         let points = task.points();

@@ -1,6 +1,6 @@
 -- What a replay of a list of calls on a new bench gives, on any cache.
 use Rattle.std.specs.Prelude.{◌≡◌, ℕ, ◌+◌, ◌≤◌, Bool, List, [], ◌∷◌, ◌++◌, Some, None, Option}
-use Rattle.std.specs.List.{AllByRecursion as All}
+use Rattle.std.specs.List.{AllByRecursion}
 use Rattle.recency.specs.Rows.{row_run}
 use Rattle.ledger.specs.Ledger.{Setting, Ledger, accessed, after, new_ledger}
 use Rattle.ledger.specs.Histories.{LoadsWithin}
@@ -42,4 +42,4 @@ module _ {C : Type 0} (sets life : C → ℕ) (holds : C → ℕ → Bool) (vouc
     pub follows : Plays S calls c (new_ledger S) played d M
     pub rows : (row : List (List ℕ)) → vouches c row → vouches d (row_run (sets c) (life c) (accesses_of S (new_ledger S) calls played) row)
     pub bounded : LoadsWithin M
-    pub always : All (λ (x : Played). CountsWithin x.counts) played
+    pub always : AllByRecursion (λ (x : Played). CountsWithin x.counts) played

@@ -1,5 +1,5 @@
 -- The distinct blocks of points, one point on. Assumes nothing.
-use Rattle.std.proofs.Common.{◌≡◌, ℕ, true, false, List, [], ◌∷◌, ◌++◌, Some, None, Option, refl}
+use Rattle.std.proofs.Common.{◌≡◌, ℕ, true, false, List, [], ◌∷◌, ◌++◌, Some, refl}
 use Rattle.std.proofs.lemmas.Bool.{cond-true, cond-false}
 use Rattle.task.specs.Contents.{PointContents}
 use Rattle.task.specs.Blocks.{noted, noted_all}

@@ -1,6 +1,6 @@
 -- How a task is put together: which points and evicting blocks are taken, and when it is whole.
 use Rattle.std.specs.Prelude.{ℕ, cond, List, [], ◌∷◌, ◌++◌, length, Some, None, Option, nat_le}
-use Rattle.task.specs.Contents.{PointContents, TaskContents, add_point, add_evicting}
+use Rattle.task.specs.Contents.{PointContents, TaskContents}
 use Rattle.task.specs.Legal.{few_points, legal_evicting, few_evicting, first_open}
 
 pub data Verdict : Type 0 where

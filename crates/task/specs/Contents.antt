@@ -1,5 +1,5 @@
 -- What a task says. Code speaks of these records through `point_contents`, `draft_contents` and `contents` of `Meaning`.
-use Rattle.std.specs.Prelude.{ℕ, List, [], ◌∷◌, ◌++◌, Some, None, Option}
+use Rattle.std.specs.Prelude.{ℕ, List, [], ◌∷◌, ◌++◌, None, Option}
 
 -- a point makes one access or none, and is followed by one of its successors; one without successors is an exit
 pub record PointContents : Type 0 where

@@ -8,8 +8,8 @@ use Rattle.ledger.specs.declared.State.TheVariants.{Walking}
 use Rattle.bench.specs.Keeping.{setting_with}
 use Rattle.bench.proofs.Bench.new.Goals as goal
 
-pub invariant-of-result : goal.invariant-of-result
-invariant-of-result g c =
+pub invariant_of-result : goal.invariant_of-result
+invariant_of-result g c =
     let t = contents c.args.task.now in
     let some : 1 ≤ length t.points = leb-true _ _ (and_parts _ _ c.args.task.now.complete).0 in
     let k = c.kept_numbers-resilient.ensures in

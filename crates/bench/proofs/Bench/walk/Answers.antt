@@ -5,8 +5,8 @@ use Rattle.bench.specs.Benches.{setting_of}
 use Rattle.bench.proofs.Successors.{successor_inside}
 use Rattle.bench.proofs.Bench.walk.Goals as goal
 
-pub invariant-of-self : goal.invariant-of-self
-invariant-of-self g c =
+pub invariant_of-self : goal.invariant_of-self
+invariant_of-self g c =
     let s = c.args.self.now in
     let t = c.perform-answer.new.self in
     let q = c.args.to in

@@ -20,12 +20,12 @@ loop-i-preserved c =
     ∙ filled_more f 64 i bs (omega arith) (omega arith)
     ∙ ap (λ (k : ℕ). filled_up 64 (map f (take k bs))) next
 
-pub invariant-of-result : goal.invariant-of-result
-invariant-of-result c =
+pub invariant_of-result : goal.invariant_of-result
+invariant_of-result c =
     let t = contents c.args.task.now in
     let few = few_blocks t c.parameters.ensures.legal in
     let long = ap length c.blocks-blocks.ensures.value in
-    (omega arith, (ap length c.loop-i.invariant ∙ length_filled 64 _, tt))
+    record { few = omega arith; room = ap length c.loop-i.invariant ∙ length_filled 64 _ }
 
 pub returns : goal.returns
 returns c =

@@ -1,4 +1,4 @@
-use Rattle.std.proofs.Common.{◌≡◌, ℕ, suc, ◌+◌, List, map, length, get_or, take, set, sym, ap, ◌∙◌, arith}
+use Rattle.std.proofs.Common.{◌≡◌, ℕ, suc, ◌+◌, List, map, length, take, set, ap, ◌∙◌, arith}
 use Rattle.std.proofs.lemmas.List.{take_all}
 use Rattle.recency.specs.Blocks.{set_of}
 use Rattle.task.specs.Tasks.{contents}
@@ -20,12 +20,12 @@ loop-i-preserved c =
     ∙ filled_more f 64 i bs (omega arith) (omega arith)
     ∙ ap (λ (k : ℕ). filled_up 64 (map f (take k bs))) next
 
-pub invariant-of-result : goal.invariant-of-result
-invariant-of-result c =
+pub invariant_of-result : goal.invariant_of-result
+invariant_of-result c =
     let t = contents c.args.task.now in
     let few = few_blocks t c.parameters-cache.ensures.legal in
     let long = ap length c.blocks-blocks.ensures.value in
-    (omega arith, (ap length c.loop-i.invariant ∙ length_filled 64 _, tt))
+    record { few = omega arith; room = ap length c.loop-i.invariant ∙ length_filled 64 _ }
 
 pub returns : goal.returns
 returns c =

@@ -1,4 +1,4 @@
-use Rattle.std.proofs.Common.{◌≡◌, ℕ, eqb, length, get_or, sym, ap, ◌∙◌, zero-add, arith, length-set}
+use Rattle.std.proofs.Common.{◌≡◌, ℕ, eqb, get_or, sym, ap, ◌∙◌, zero-add, arith, length-set}
 use Rattle.std.proofs.lemmas.Bool.{cond-true, cond-false, eq-eqb, ne_eqb}
 use Rattle.cells.specs.Cells.{each}
 use Rattle.cells.proofs.Lists.{length_each, getD_each, built_more, built_all}

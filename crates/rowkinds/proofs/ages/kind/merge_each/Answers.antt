@@ -1,4 +1,4 @@
-use Rattle.std.proofs.Common.{◌≡◌, min, length, get_or, sym, ap, ◌∙◌, arith, length-set}
+use Rattle.std.proofs.Common.{min, sym, ◌∙◌, arith, length-set}
 use Rattle.cells.specs.Cells.{both}
 use Rattle.cells.proofs.Lists.{length_both, getD_both, built_more, built_all}
 use Rattle.rowkinds.proofs.ages.kind.merge_each.Goals as goal

@@ -1,9 +1,9 @@
-use Rattle.std.proofs.Common.{◌≡◌, ℕ, ◌+◌, ◌<◌, ◌≤◌, Bool, true, false, cond, leb, List, [], ◌∷◌, ◌++◌, length, vec_items, vec_len, sym, refl, ap, ◌∙◌, arith, rules}
+use Rattle.std.proofs.Common.{◌≡◌, ℕ, ◌+◌, Bool, true, false, List, [], ◌∷◌, ◌++◌, length, vec_items, vec_len, sym, refl, ap, ◌∙◌, arith}
 use Rattle.std.proofs.lemmas.List.{length_push}
 use Rattle.std.proofs.lemmas.Bool.{cond-true, cond-false, le-leb, lt-leb}
-use Rattle.task.specs.Contents.{TaskContents, task_with, add_evicting}
+use Rattle.task.specs.Contents.{TaskContents, task_with}
 use Rattle.task.specs.Legal.{legal_evicting, few_evicting, legal_draft}
-use Rattle.task.specs.Adding.{Verdict, fits, unfit, too_many, evicting_verdict}
+use Rattle.task.specs.Adding.{fits, unfit, too_many}
 use Rattle.task.specs.Drafts.{draft_contents}
 use Rattle.task.specs.declared.draft.TaskDraft.{TaskDraft}
 use Rattle.task.proofs.Drafting.{kept, evicting_added}
@@ -56,16 +56,20 @@ push_reserved-requires c =
     let e = c.len.ensures in
     omega arith
 
-pub invariant-of-self : goal.invariant-of-self
-invariant-of-self c =
+pub invariant_of-self : goal.invariant_of-self
+invariant_of-self c =
     let d = c.args.self.now in
     let b = c.args.block in
     let e = c.push_reserved.ensures.capacity in
-    let r = d.evicting_room in (
-      ap (λ (bs : List ℕ). legal_draft (with_evicting (draft_contents d) bs)) c.push_reserved.ensures.items
-          ∙ evicting_added (draft_contents d) b d.legal (followed d b _ true c.deref.ensures.value c.if-not-may_follow.ensures) (few d b c.len.result c.if-len-eq-MAX_EVICTING.false c.len.ensures),
-      (d.named, (d.points_room, (d.blocks_room, (omega arith, tt)))),
-    )
+    let r = d.evicting_room in
+    record {
+      legal = ap (λ (bs : List ℕ). legal_draft (with_evicting (draft_contents d) bs)) c.push_reserved.ensures.items
+          ∙ evicting_added (draft_contents d) b d.legal (followed d b _ true c.deref.ensures.value c.if-not-may_follow.ensures) (few d b c.len.result c.if-len-eq-MAX_EVICTING.false c.len.ensures);
+      named = d.named;
+      points_room = d.points_room;
+      blocks_room = d.blocks_room;
+      evicting_room = omega arith;
+    }
 
 pub returns : goal.returns
 returns c =

@@ -1,7 +1,7 @@
-use Rattle.std.proofs.Common.{◌≡◌, ℕ, ◌<◌, ◌≤◌, Bool, true, false, cond, leb, List, [], ◌∷◌, ◌++◌, length, vec_items, vec_len, Option, sym, refl, ap, ◌∙◌, subst, arith, rules}
+use Rattle.std.proofs.Common.{◌≡◌, ℕ, Bool, true, false, leb, List, [], ◌∷◌, ◌++◌, length, vec_items, vec_len, Option, sym, refl, ap, ◌∙◌, arith}
 use Rattle.std.proofs.lemmas.List.{length-map, map_push}
 use Rattle.std.proofs.lemmas.Bool.{cond-true, cond-false}
-use Rattle.task.specs.Contents.{PointContents, TaskContents, task_with, add_point}
+use Rattle.task.specs.Contents.{PointContents, TaskContents, task_with}
 use Rattle.task.specs.Blocks.{noted, distinct_blocks}
 use Rattle.task.specs.Legal.{few_points, legal_draft}
 use Rattle.task.specs.Adding.{fits, too_many, point_verdict}
@@ -25,7 +25,7 @@ note_access-requires c =
     let d = c.args.self.now in
     let k = kept (draft_contents d) d.legal in
     let n = d.blocks.ok.0 in
-    (omega (arith, ap length d.named, k.blocks_few), d.blocks_room)
+    record { blocks_len_bound = omega (arith, ap length d.named, k.blocks_few); bound = d.blocks_room }
 
 pub returns-then-len-eq-MAX_POINTS : goal.returns-then-len-eq-MAX_POINTS
 returns-then-len-eq-MAX_POINTS c =
@@ -71,20 +71,21 @@ pushed d p points e = ap all_contents e ∙ map_push point_contents (vec_items d
 abbrev with_points : TaskContents → List PointContents → TaskContents
 with_points t ps = task_with t.sets t.ways t.reload ps t.evicting
 
-pub invariant-of-self-2 : goal.invariant-of-self-2
-invariant-of-self-2 c =
+pub invariant_of-self-2 : goal.invariant_of-self-2
+invariant_of-self-2 c =
     let d = c.args.self.now in
     let p = c.args.point in
     let added = pushed d p (vec_items c.push_reserved.new.self) c.push_reserved.ensures.items in
     let ok = few d p _ _ c.access.ensures c.len.ensures c.if-len-eq-MAX_POINTS.false c.if-not-note_access.ensures.test in
-    let more = c.if-not-note_access.ensures in (
-      ap (λ (ps : List PointContents). legal_draft (with_points (draft_contents d) ps)) added ∙ point_added (draft_contents d) (point_contents p) d.legal p.legal ok,
-      (
-        more.after ∙ ap (noted (vec_items d.blocks)) c.access.ensures ∙ ap (λ (bs : List ℕ). noted bs p.access) d.named
-            ∙ sym (noted_push [] (draft_contents d).points (point_contents p)) ∙ sym (ap distinct_blocks added),
-        (let e = c.push_reserved.ensures.capacity in let r = d.points_room in omega arith, (let e = more.capacity in let r = d.blocks_room in omega arith, (d.evicting_room, tt))),
-      ),
-    )
+    let more = c.if-not-note_access.ensures in
+    record {
+      legal = ap (λ (ps : List PointContents). legal_draft (with_points (draft_contents d) ps)) added ∙ point_added (draft_contents d) (point_contents p) d.legal p.legal ok;
+      named = more.after ∙ ap (noted (vec_items d.blocks)) c.access.ensures ∙ ap (λ (bs : List ℕ). noted bs p.access) d.named
+          ∙ sym (noted_push [] (draft_contents d).points (point_contents p)) ∙ sym (ap distinct_blocks added);
+      points_room = let e = c.push_reserved.ensures.capacity in let r = d.points_room in omega arith;
+      blocks_room = let e = more.capacity in let r = d.blocks_room in omega arith;
+      evicting_room = d.evicting_room;
+    }
 
 pub returns : goal.returns
 returns c =

@@ -1,9 +1,9 @@
-use Rattle.std.proofs.Common.{◌≡◌, ℕ, ◌≤◌, Bool, true, false, eqb, leb, List, length, Some, None, Option, sym, refl, ap, ◌∙◌, arith}
+use Rattle.std.proofs.Common.{◌≡◌, true, false, eqb, leb, List, length, sym, refl, ap, ◌∙◌, arith}
 use Rattle.std.proofs.lemmas.List.{length-map}
 use Rattle.std.proofs.lemmas.Bool.{and_from, cond-true, cond-false, eqb-true, eqb-false, le-leb, lt-leb}
 use Rattle.task.specs.Contents.{PointContents}
-use Rattle.task.specs.Legal.{closed_point, complete, first_open}
-use Rattle.task.specs.Adding.{Completion, whole, no_point, open_at, closing, completion}
+use Rattle.task.specs.Legal.{closed_point, first_open}
+use Rattle.task.specs.Adding.{no_point, closing}
 use Rattle.task.specs.Meaning.{point_contents, all_contents}
 use Rattle.task.specs.declared.point.Point.{Point}
 use Rattle.task.proofs.Searching.{every_none}
@@ -25,11 +25,11 @@ no_points shown ps e h =
 pub returns-then-is_empty : goal.returns-then-is_empty
 returns-then-is_empty c = (cond-false _ _ no_point (no_points _ _ c.points.ensures c.if-is_empty.ensures), refl)
 
-pub invariant-of-result : goal.invariant-of-result
-invariant-of-result c =
+pub invariant_of-result : goal.invariant_of-result
+invariant_of-result c =
     let ps = all_contents c.args.self.points.items in
     let closed = every_none (closed_point (length ps)) 0 ps (sym (c.in-None.ensures ∙ ap first_open c.points-2.ensures)) in
-    (and_from _ _ (some_point _ _ c.points.ensures c.if-is_empty.ensures) closed, tt)
+    record { complete = and_from _ _ (some_point _ _ c.points.ensures c.if-is_empty.ensures) closed }
 
 pub returns-in-None : goal.returns-in-None
 returns-in-None c = (

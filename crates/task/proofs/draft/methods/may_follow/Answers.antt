@@ -1,6 +1,6 @@
-use Rattle.std.proofs.Common.{◌≡◌, ℕ, Bool, true, false, ◌&&◌, List, [], ◌∷◌, ◌++◌, sym, refl, ap, ◌∙◌, arith, rules}
+use Rattle.std.proofs.Common.{Bool, ◌&&◌, [], ◌∷◌, ◌++◌, sym, ap, ◌∙◌, arith}
 use Rattle.std.proofs.lemmas.Bool.{and_parts, and_left, lt-ltb, le-ltb}
-use Rattle.task.specs.Legal.{is_block, legal_evicting}
+use Rattle.task.specs.Legal.{is_block}
 use Rattle.task.specs.Lists.{every, rising}
 use Rattle.task.proofs.Drafting.{every_push, every_last}
 use Rattle.task.proofs.draft.methods.may_follow.Goals as goal

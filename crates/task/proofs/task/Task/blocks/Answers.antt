@@ -1,4 +1,4 @@
-use Rattle.std.proofs.Common.{◌≡◌, ℕ, ◌≤◌, List, length, sym, ap, ◌∙◌, subst}
+use Rattle.std.proofs.Common.{ℕ, ◌≤◌, length, sym, ap, ◌∙◌, subst}
 use Rattle.task.specs.Blocks.{ListsEachAccessOnce}
 use Rattle.task.specs.Tasks.{contents}
 use Rattle.task.proofs.Blocks.{lists_each_access_once}

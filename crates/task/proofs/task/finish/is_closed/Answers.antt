@@ -1,4 +1,4 @@
-use Rattle.std.proofs.Common.{◌≡◌, ltb, get_or, ap, ◌∙◌, arith}
+use Rattle.std.proofs.Common.{ltb, get_or, ap, ◌∙◌, arith}
 use Rattle.std.proofs.lemmas.Bool.{lt-ltb, le-ltb}
 use Rattle.task.specs.Lists.{every}
 use Rattle.task.proofs.Searching.{every_stops, every_goes, every_done}

@@ -1,4 +1,4 @@
-use Rattle.std.proofs.Common.{◌≡◌, None, sym, ◌∙◌, arith, length-set}
+use Rattle.std.proofs.Common.{None, sym, ◌∙◌, arith, length-set}
 use Rattle.cells.specs.Cells.{both}
 use Rattle.cells.proofs.Lists.{length_both, getD_both, built_more, built_all}
 use Rattle.widest.specs.NextUses.{larger}
