@@ -1,5 +1,5 @@
 -- One access under the FIFO policy (first in, first out).
-use Rattle.std.specs.Prelude.{ℕ, cond, List, ◌∷◌, take, set, slice_set}
+use Rattle.std.specs.Prelude.{ℕ, cond, List, ◌∷◌, take, slice_set}
 use Rattle.recency.specs.Blocks.{has, set_of}
 use Rattle.recency.specs.Rows.{list_of}
 

@@ -9,13 +9,13 @@ use crate::outcome::Outcome;
 // Makes the accesses in order, on a cache in any state, and answers how many miss: at most as many as in an LRU cache
 // of `life` ways that starts empty.
 pub fn run_accesses<C: Cache>(cache: &mut C, blocks: &[u32]) -> usize
-    ensures counted { Misses holds cache.old blocks.now result cache.new }
-    ensures sets { sets cache.new ≡ sets cache.old }
-    ensures life { life cache.new ≡ life cache.old }
-    ensures moves { (row : List (List ℕ)) → vouches cache.old row → vouches cache.new (row_run (sets cache.old) (life cache.old) blocks.now row) }
-    ensures vouched { vouches cache.new (row_run (sets cache.old) (life cache.old) blocks.now (empty_row (sets cache.old))) }
-    ensures bounded { (row : List (List ℕ)) → vouches cache.old row → result ≤ possible_misses (sets cache.old) (life cache.old) blocks.now row }
-    ensures bounded_from_empty { result ≤ possible_misses (sets cache.old) (life cache.old) blocks.now (empty_row (sets cache.old)) }
+    ensures counted { Misses C.holds cache.old blocks.now result cache.new }
+    ensures sets { C.sets cache.new ≡ C.sets cache.old }
+    ensures life { C.life cache.new ≡ C.life cache.old }
+    ensures moves { (row : List (List ℕ)) → C.vouches cache.old row → C.vouches cache.new (row_run (C.sets cache.old) (C.life cache.old) blocks.now row) }
+    ensures vouched { C.vouches cache.new (row_run (C.sets cache.old) (C.life cache.old) blocks.now (empty_row (C.sets cache.old))) }
+    ensures bounded { (row : List (List ℕ)) → C.vouches cache.old row → result ≤ possible_misses (C.sets cache.old) (C.life cache.old) blocks.now row }
+    ensures bounded_from_empty { result ≤ possible_misses (C.sets cache.old) (C.life cache.old) blocks.now (empty_row (C.sets cache.old)) }
 {
     let mut misses = 0;
     for block in blocks {

@@ -1,5 +1,5 @@
 -- A tree PLRU cache: its sets, in their order, and an access.
-use Rattle.std.specs.Prelude.{◌≡◌, ℕ, suc, Bool, true, List, set, replicate, Some, None, Ok, Err, Option, Result, slice_index_or, slice_set}
+use Rattle.std.specs.Prelude.{◌≡◌, ℕ, suc, Bool, true, List, replicate, Some, None, Ok, Err, Option, Result, slice_index_or, slice_set}
 use Rattle.cache.specs.declared.fault.CacheFault.{CacheFault}
 use Rattle.cache.specs.Sizes.{refusal}
 use Rattle.recency.specs.Blocks.{has, set_of}

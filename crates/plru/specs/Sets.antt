@@ -1,5 +1,5 @@
 -- One set of a tree PLRU cache, and an access.
-use Rattle.std.specs.Prelude.{ℕ, suc, cond, List, [], ◌∷◌, ◌++◌, length, set, ◌==◌, nat_lt, slice_set}
+use Rattle.std.specs.Prelude.{ℕ, suc, cond, List, [], ◌∷◌, ◌++◌, length, ◌==◌, nat_lt, slice_set}
 use Rattle.recency.specs.Blocks.{has}
 use Rattle.plru.specs.Tree.{touched, victim}
 

@@ -9,7 +9,7 @@ fn fills_then_follows_the_bits(rt: HostRuntime) -> Result<(), Fail> {
         return Err(Fail::new("no cache"));
     };
     assert_eq!(rt; run_accesses(&mut cache, &[1, 2, 3, 4, 5, 6]), 6);
-    assert_eq!(rt; cache.blocks(0), &[5, 2, 6, 4]);
+    assert_eq!(rt; cache.blocks(0), [5, 2, 6, 4].as_slice());
     Ok(())
 }
 

@@ -7,10 +7,10 @@ use Rattle.plru.proofs.tree.victim.Goals as goal
 
 within : (c : goal.In-loop-level) → c.loop-level.place < 8
 within c =
-    let e : c.loop-level.place ≡ led_to c.args.bits c.loop-level.-level = c.loop-level.invariant in
+    let e : c.loop-level.place ≡ led_to c.args.bits c.loop-level._level = c.loop-level.invariant in
     let f = levels_few c.args.ways in
     let t = c.loop-level-test.true in
-    let s = led_small c.args.bits c.loop-level.-level (let r = c.levels-level-end.ensures in omega arith) in
+    let s = led_small c.args.bits c.loop-level._level (let r = c.levels-level-end.ensures in omega arith) in
     omega arith
 
 pub overflow_mul-place : goal.overflow_mul-place
@@ -24,5 +24,5 @@ overflow_add-place c = let w = within c in let l = and_le_r (c.args.bits / 2 ^ c
 
 pub loop-level-preserved : goal.loop-level-preserved
 loop-level-preserved c =
-    let e : c.loop-level.place ≡ led_to c.args.bits c.loop-level.-level = c.loop-level.invariant in
-    ap (λ p. 2 * p + bit_and (c.args.bits / 2 ^ p) 1) e ∙ led_on c.args.bits c.loop-level.-level
+    let e : c.loop-level.place ≡ led_to c.args.bits c.loop-level._level = c.loop-level.invariant in
+    ap (λ p. 2 * p + bit_and (c.args.bits / 2 ^ p) 1) e ∙ led_on c.args.bits c.loop-level._level

@@ -3,4 +3,4 @@ use Rattle.plru.specs.Tree.{led_to}
 use Rattle.plru.proofs.tree.victim.Given as goal
 
 abbrev pub invariant-loop-level : goal.invariant-loop-level
-invariant-loop-level l = l.place ≡ led_to l.bits l.-level
+invariant-loop-level l = l.place ≡ led_to l.bits l._level

@@ -21,7 +21,7 @@ invariant_of-self c =
     let row = row_of s.sets s.lists in
     let room : s.sets ≤ length s.lists = omega arith in
     let moved = row_set s.sets s.ways b s.lists _ s.some_sets room (fifo_step s.ways b) c.admit-hit.new.self c.admit-hit.ensures.moved in
-    (length-set s.lists _ _ ∙ s.room, (s.some_sets, (s.few_sets, (s.some_ways, (s.few_ways, (ap (is_row s.sets s.ways) moved ∙ fifo_step_is_row s.sets s.ways row s.row s.some_sets b, tt))))))
+    record { room = length-set s.lists _ _ ∙ s.room; some_sets = s.some_sets; few_sets = s.few_sets; some_ways = s.some_ways; few_ways = s.few_ways; row = ap (is_row s.sets s.ways) moved ∙ fifo_step_is_row s.sets s.ways row s.row s.some_sets b }
 
 pub returns : goal.returns
 returns c =

@@ -7,7 +7,7 @@ pub invariant_of-result : goal.invariant_of-result
 invariant_of-result c =
     let made = c.in_ok-check_size.ensures in
     let k = size_within c.args.sets c.args.ways made in
-    (refl, (k.0, (k.1, (k.2, (k.3, (new_is_row c.args.sets c.args.ways c.new.result made c.new.ensures, tt))))))
+    record { room = refl; some_sets = k.0; few_sets = k.1; some_ways = k.2; few_ways = k.3; row = new_is_row c.args.sets c.args.ways c.new.result made c.new.ensures }
 
 pub returns : goal.returns
 returns c =

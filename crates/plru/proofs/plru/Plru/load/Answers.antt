@@ -15,7 +15,7 @@ invariant_of-self c =
     let m : b % s.sets < s.sets = mod-lt b s.some in
     let old = fit_at s.ways s.lines (b % s.sets) c.index-self-set.result (omega arith) s.fits in
     let new = line_fits s.ways b (get_or s.lines (b % s.sets) c.index-self-set.result) c.access-hit.new.self s.size old c.access-hit.ensures.moved in
-    (s.some, (s.few, (s.size, (length-set s.lines (b % s.sets) c.access-hit.new.self ∙ s.room, (fit_set s.ways s.lines (b % s.sets) c.access-hit.new.self new s.fits, tt)))))
+    record { some = s.some; few = s.few; size = s.size; room = length-set s.lines (b % s.sets) c.access-hit.new.self ∙ s.room; fits = fit_set s.ways s.lines (b % s.sets) c.access-hit.new.self new s.fits }
 
 pub returns-then-hit : goal.returns-then-hit
 returns-then-hit c =

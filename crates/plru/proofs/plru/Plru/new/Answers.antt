@@ -11,7 +11,7 @@ sized ways e = grind (arith, nat_tests)
 pub invariant_of-result : goal.invariant_of-result
 invariant_of-result c =
     let e = empty_count c.empty-empty.result c.empty-empty.ensures in
-    (omega arith, (omega arith, (sized c.args.ways c.else-ways-ne2.either, (refl, (fit_replicate c.args.ways 64 c.empty-empty.result (omega arith), tt)))))
+    record { some = omega arith; few = omega arith; size = sized c.args.ways c.else-ways-ne2.either; room = refl; fits = fit_replicate c.args.ways 64 c.empty-empty.result (omega arith) }
 
 pub returns : goal.returns
 returns c =
