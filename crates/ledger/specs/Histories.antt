@@ -2,11 +2,9 @@
 use Rattle.std.specs.Prelude.{◌≡◌, ℕ, ◌+◌, ◌≤◌, Bool, true, List, [], ◌∷◌, Some, None, Option}
 use Rattle.recency.specs.Blocks.{has}
 use Rattle.recency.specs.Rows.{empty_row, list_of}
-use Rattle.task.specs.Contents.{TaskContents}
 use Rattle.task.specs.Legal.{legal}
 use Rattle.ledger.specs.Ledger.{Setting, Ledger, accessed, after, new_ledger, row_moved}
 use Rattle.ledger.specs.declared.Call.{Call}
-use Rattle.ledger.specs.declared.Call.TheVariants.{Step, Finish, Interrupt, Touch, Resume}
 
 -- a call, obeyed or refused, and whether its access hit
 pub record Heard : Type 0 where

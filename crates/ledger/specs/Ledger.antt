@@ -1,6 +1,6 @@
 -- The ledger of a bench: which calls it refuses and what it counts, from the task, the calls, and the cache's hits and
 -- misses at the accesses of steps and finishes.
-use Rattle.std.specs.Prelude.{ℕ, ◌+◌, Bool, true, false, cond, not, List, [], ◌∷◌, length, Some, None, Option, ◌==◌, nat_lt, slice_index_or}
+use Rattle.std.specs.Prelude.{ℕ, ◌+◌, Bool, true, false, cond, List, [], ◌∷◌, length, Some, None, Option, ◌==◌, nat_lt, slice_index_or}
 use Rattle.recency.specs.Blocks.{has}
 use Rattle.recency.specs.Rows.{empty_row, list_of, row_step}
 use Rattle.task.specs.Blocks.{access_at}
