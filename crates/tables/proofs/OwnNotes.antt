@@ -1,5 +1,5 @@
 -- The notes of a task are own notes of its kinds. Assumes nothing.
-use Rattle.std.proofs.Common.{◌≡◌, ℕ, zero, suc, ◌+◌, ◌<◌, ◌≤◌, Bool, true, false, cond, eqb, List, [], ◌∷◌, map, length, get_or, Some, None, Option, sym, refl, ap, ◌∙◌, subst, arith}
+use Rattle.std.proofs.Common.{◌≡◌, ℕ, zero, suc, ◌+◌, ◌<◌, ◌≤◌, Bool, true, false, cond, eqb, List, [], ◌∷◌, map, length, get_or, Some, None, Option, refl, ap, arith}
 use lib.ListN.{length-map}
 use Rattle.std.specs.List.{AllByRecursion as All}
 use Rattle.task.specs.Blocks.{access_at, access_index}
@@ -12,7 +12,7 @@ use Rattle.blocksets.proofs.Sizes.{size_lacking}
 use Rattle.conflicts.specs.Conflicts.{OwnConflict, conflict_cell, conflict_list, conflicts_meaning}
 use Rattle.conflicts.specs.declared.Conflicts.{Conflicts}
 use Rattle.widest.specs.NextUses.{Below, OwnUse}
-use Rattle.tables.specs.Tables.{access_notes, blocks, conflict_kind, size_of, use_note, use_notes}
+use Rattle.tables.specs.Tables.{access_notes, blocks, size_of, use_note, use_notes}
 
 -- an index that was found is one of the list
 first_below : {X : Type 0} (i n : ℕ) (test : X → Bool) (xs : List X) → n ≡ i + length xs → OwnAccess n (first_from i test xs)

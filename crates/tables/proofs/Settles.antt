@@ -7,11 +7,13 @@ use Rattle.fixpoint.specs.Rounds.{job_of}
 use Rattle.fixpoint.specs.Settled.{Settled}
 use Rattle.fixpoint.specs.Answers.{Solved, job}
 use Rattle.fixpoint.proofs.Steps.{length_after_rounds}
+use Rattle.fixpoint.proofs.Value.{settled_value}
 use Rattle.fixpoint.specs.declared.direction.Direction.{Direction}
 use Rattle.rowkinds.specs.Ages.{ages_meaning}
 use Rattle.rowkinds.specs.BlockSets.{block_sets, filled_up}
 use Rattle.rowkinds.specs.declared.ages.Ages.{Ages}
 use Rattle.conflicts.specs.Conflicts.{conflicts_meaning}
+use Rattle.conflicts.specs.Laws.{conflicts_laws}
 use Rattle.conflicts.specs.declared.Conflicts.{Conflicts}
 use Rattle.widest.specs.NextUses.{OwnUse, next_uses_meaning}
 use Rattle.widest.specs.declared.next_uses.NextUse.{NextUse}
@@ -43,15 +45,18 @@ module _ (t : TaskContents) (notes : List (Option ℕ)) (e : take (length t.poin
 
 -- the notes of widest next uses, read from the settled table of conflict sets
 module _ (t : TaskContents) (few : length (blocks t) ≤ 64) (uses : List (Option NextUse)) (before after : List Conflicts) (r : ℕ) (conflicts : Settles (conflict_kind t) (age_job t) before after r) where
+  conflicts_value : take (length t.points) after ≡ settled_conflicts t
+  conflicts_value = settled_value (conflict_kind t) (conflicts_laws (length (blocks t)) (filled_up 64 (block_sets t))) (age_job t) (own_access_notes t) r (take (length t.points) after) conflicts.settled
+
   own_uses : All (OwnUse (length (blocks t))) (use_notes (settled_conflicts t) (access_notes t))
   own_uses =
       own_use_notes (length (blocks t)) few (filled_up 64 (block_sets t)) (settled_conflicts t) (access_notes t)
-      (subst (All (conflict_kind t).own_row) conflicts.settled.value conflicts.settled.own.own) (own_access_notes t)
+      (subst (All (conflict_kind t).own_row) conflicts_value conflicts.settled.own.own) (own_access_notes t)
 
   pub widest_settle : (notes : List (Option ℕ)) → take (length t.points) notes ≡ access_notes t → take (length t.points) uses ≡ use_notes (take (length t.points) after) (take (length t.points) notes) → (direction : Direction) (old new : List NextUses) (k n : ℕ) → n ≡ length (blocks t) → Solved (next_uses_meaning n) direction t uses old new k → Settles (next_use_kind t) (job_of direction t.points (use_notes (settled_conflicts t) (access_notes t))) old new k
   widest_settle notes e u direction old new k n same s =
       settles (next_use_kind t) direction t uses (use_notes (settled_conflicts t) (access_notes t)) old new k
-      (u ∙ ap (λ rows. use_notes rows (take (length t.points) notes)) conflicts.settled.value ∙ ap (use_notes (settled_conflicts t)) e)
+      (u ∙ ap (λ rows. use_notes rows (take (length t.points) notes)) conflicts_value ∙ ap (use_notes (settled_conflicts t)) e)
       own_uses
       (subst (λ m. Solved (next_uses_meaning m) direction t uses old new k) same s)
 

@@ -17,7 +17,7 @@ pub(crate) fn settle_one<K: RowKind>(
 ) -> u64
     requires room { length (contents task.now).points ≤ length table.old.rows.now }
     requires noted { length (contents task.now).points ≤ length notes.now }
-    ensures solved { Solved (meaning kind.now) direction (contents task.now) notes.now table.old.rows.now table.new.rows.now result }
+    ensures solved { Solved (K.meaning kind.now) direction (contents task.now) notes.now table.old.rows.now table.new.rows.now result }
     ensures lent { table.new.rows.ghost_name ≡ table.old.rows.ghost_name }
 {
     match table.settle(kind, task, direction, notes) {

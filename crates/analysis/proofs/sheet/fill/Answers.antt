@@ -14,7 +14,7 @@ loop-p-init c = (refl, sym (sheet_none _ _), refl)
 pub unreachable-requires : goal.unreachable-requires
 unreachable-requires c =
     let n = sym (length-map c.points-n.result.now point_contents) ∙ ap length c.points-n.ensures in
-    omega (arith, n, c.requires.settled, c.in-default.ensures, c.loop-p-test.true)
+    omega (arith, n, c.requires.settled, c.in_default.ensures, c.loop-p-test.true)
 
 pub bounds-sheet-p : goal.bounds-sheet-p
 bounds-sheet-p c =

@@ -10,12 +10,12 @@ use Rattle.bench.proofs.Finding.{found, not_found}
 use Rattle.bench.proofs.Turns.{called_from, cause_open}
 use Rattle.bench.proofs.Bench.disturb.Goals as goal
 
-pub returns-in-default : goal.returns-in-default
-returns-in-default g c =
+pub returns-in_default : goal.returns-in_default
+returns-in_default g c =
     let m = g.C.Cache in
     let s = c.args.self.now in
     let b = c.args.block in
-    let has_not : has b (setting_of s).task.evicting ≡ false = not_found b 0 (setting_of s).task.evicting (sym c.evicting_index.ensures ∙ c.in-default.is) in
+    let has_not : has b (setting_of s).task.evicting ≡ false = not_found b 0 (setting_of s).task.evicting (sym c.evicting_index.ensures ∙ c.in_default.is) in
     record {
       called =
           called_from m.sets m.life m.holds m.vouches (setting_of s) (Touch b) s.cache (ledger_in s) (Err NotEvicting) s.cache (ledger_in s) (Some 20)

@@ -9,12 +9,12 @@ use Rattle.bench.proofs.Steps.{loads_met, stepped_quietly, stepped_with}
 use Rattle.bench.proofs.Successors.{access_of_point}
 use Rattle.bench.proofs.Bench.perform.Goals as goal
 
-pub returns-in-default : goal.returns-in-default
-returns-in-default g c =
+pub returns-in_default : goal.returns-in_default
+returns-in_default g c =
     let m = g.C.Cache in
     let s = c.args.self.now in
     let ps = (setting_of s).task.points in
-    let e : access_at ps s.point ≡ None = sym (access_of_point ps s.point) ∙ ap (λ p. p.access) (sym c.point_at.ensures) ∙ sym c.access.ensures ∙ c.in-default.is in
+    let e : access_at ps s.point ≡ None = sym (access_of_point ps s.point) ∙ ap (λ p. p.access) (sym c.point_at.ensures) ∙ sym c.access.ensures ∙ c.in_default.is in
     record {
       says = ap (answer_of (m.holds s.cache) NoAccess) (sym e);
       counts = stepped_quietly (setting_of s) (ledger_in s) e false s.state s.point;

@@ -8,7 +8,7 @@ use Rattle.bench.proofs.numbers.resilient_numbers.Goals as goal
 pub unreachable-requires : goal.unreachable-requires
 unreachable-requires c =
     let n = sym (length-map c.points-p-end.result.now point_contents) ∙ ap length c.points-p-end.ensures in
-    omega (arith, n, c.requires, c.in-default.ensures, c.loop-p-test.true)
+    omega (arith, n, c.requires, c.in_default.ensures, c.loop-p-test.true)
 
 pub bounds-resilient-p : goal.bounds-resilient-p
 bounds-resilient-p c =

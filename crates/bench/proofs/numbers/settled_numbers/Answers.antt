@@ -5,7 +5,7 @@ use Rattle.analysis.proofs.Sheets.{same_numbers, settled_room}
 use Rattle.bench.proofs.numbers.settled_numbers.Goals as goal
 
 pub unreachable-requires : goal.unreachable-requires
-unreachable-requires c = omega (arith, c.requires, c.in-default.ensures.answer.0)
+unreachable-requires c = omega (arith, c.requires, c.in_default.ensures.answer.0)
 
 pub resilient_numbers-requires : goal.resilient_numbers-requires
 resilient_numbers-requires c = settled_room (contents c.args.task.now) (rows_of c.args.tables.now) (rows_of c.settle.new.self) c.in-Ok.field-0 c.in-Ok.ensures.answer

@@ -31,9 +31,9 @@ loop-c-preserved c =
           (second_more text bytes i _ c.loop-c.invariant w.in-Some-high.first c.in-Some.digit c.loop-c-test.true c.if-c-eq32.false is w.in-Some-high.is)
     ]
 
-pub returns-in-default : goal.returns-in-default
-returns-in-default c =
-    other_ends c.args.hex.now _ c.loop-c.c-index _ c.loop-c.invariant c.loop-c-test.true c.if-c-eq32.false (sym c.digit_from.ensures ∙ c.in-default.is)
+pub returns-in_default : goal.returns-in_default
+returns-in_default c =
+    other_ends c.args.hex.now _ c.loop-c.c-index _ c.loop-c.invariant c.loop-c-test.true c.if-c-eq32.false (sym c.digit_from.ensures ∙ c.in_default.is)
 
 pub returns-in-None-high : goal.returns-in-None-high
 returns-in-None-high c =

@@ -1,4 +1,4 @@
-use Rattle.std.proofs.Common.{◌≡◌, ℕ, sym, ap, ◌∙◌, subst, arith}
+use Rattle.std.proofs.Common.{◌≡◌, sym, ap, ◌∙◌, subst, arith}
 use Rattle.task.specs.Tasks.{contents}
 use Rattle.numbers.specs.Numbers.{numbers, view}
 use Rattle.rowkinds.specs.Ages.{ages_meaning}

@@ -32,7 +32,7 @@ unreachable-requires c =
     let d = conflicts_row [] in
     let l : p < length rows = omega (arith, c.requires.filled, c.loop-p-test.true) in
     let e : c.row.result ≡ slice_get rows p = c.row.ensures in
-    c.in-default.not-Some (get_or rows p d) (e ∙ slice_get-get_or rows p d l)
+    c.in_default.not-Some (get_or rows p d) (e ∙ slice_get-get_or rows p d l)
 
 pub loop-p-preserved : goal.loop-p-preserved
 loop-p-preserved c =
