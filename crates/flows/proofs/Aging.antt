@@ -1,7 +1,7 @@
 -- The rule for rows of ages is the rule for ages of blocks, and settled ages obey it along each edge. Assumes nothing.
-use Rattle.std.proofs.Common.{◌≡◌, ℕ, zero, suc, ◌+◌, ◌<◌, ◌≤◌, min, Bool, true, false, cond, ◌&&◌, eqb, ltb, leb, List, [], ◌∷◌, length, get_or, Some, None, Option, sym, refl, ap, ◌∙◌, subst, zero-add, arith}
+use Rattle.std.proofs.Common.{◌≡◌, ℕ, ◌<◌, ◌≤◌, true, cond, eqb, List, [], length, get_or, Some, None, Option, refl, ap, ◌∙◌, subst, zero-add, arith}
 use lib.ListN.{length-map}
-use Rattle.std.proofs.lemmas.Bool.{cond-true, lt-ltb}
+use Rattle.std.proofs.lemmas.Bool.{lt-ltb}
 use Rattle.recency.specs.Blocks.{has, set_of}
 use Rattle.task.specs.Blocks.{access_at, access_index}
 use Rattle.task.specs.Contents.{TaskContents, point_with}
@@ -13,10 +13,10 @@ use Rattle.fixpoint.specs.declared.direction.Direction.{Direction}
 use Rattle.fixpoint.specs.declared.direction.Direction.TheVariants.{Forward, Backward}
 use Rattle.cells.specs.Cells.{each}
 use Rattle.cells.proofs.Lists.{getD_each}
-use Rattle.rowkinds.specs.Ages.{age_after, age_cell, age_list, ages_after, grown}
+use Rattle.rowkinds.specs.Ages.{age_after, age_cell, age_list, grown}
 use Rattle.rowkinds.specs.BlockSets.{block_sets, filled_up}
 use Rattle.rowkinds.specs.declared.ages.Ages.{Ages}
-use Rattle.tables.specs.Tables.{access_notes, age_job, age_kind, blocks, reuse_job, settled_ages, settled_reuses}
+use Rattle.tables.specs.Tables.{access_notes, age_kind, blocks, settled_ages, settled_reuses}
 use Rattle.tables.proofs.OwnNotes.{access_notes_at, length_access_notes}
 use Rattle.soundness.specs.Flows.{aged}
 use Rattle.flows.specs.Of.{age_of, index}

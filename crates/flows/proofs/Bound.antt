@@ -1,13 +1,13 @@
 -- Loads are at most plain loads plus charge, after every history of calls. Assumes nothing.
-use Rattle.std.proofs.Common.{◌≡◌, ℕ, zero, suc, ◌+◌, ◌<◌, ◌≤◌, Bool, true, false, cond, ◌&&◌, eqb, ltb, List, [], ◌∷◌, length, Some, None, Option, sym, refl, ap, ◌∙◌, subst, arith}
-use Rattle.std.proofs.lemmas.Bool.{and_parts, both_ways, eqb-true, leb-true}
+use Rattle.std.proofs.Common.{◌≡◌, ℕ, ◌+◌, ◌≤◌, Bool, true, false, cond, eqb, ltb, List, [], ◌∷◌, length, Some, None, Option, sym, refl, ap, ◌∙◌, subst, arith}
+use Rattle.std.proofs.lemmas.Bool.{and_parts, eqb-true, leb-true}
 use Rattle.recency.specs.Blocks.{has}
-use Rattle.recency.specs.Rows.{empty_row, list_of, row_step}
+use Rattle.recency.specs.Rows.{empty_row, row_step}
 use Rattle.task.specs.Blocks.{access_at}
 use Rattle.task.specs.Contents.{TaskContents}
 use Rattle.task.specs.Legal.{legal}
 use Rattle.task.proofs.Drafting.{kept}
-use Rattle.ledger.specs.Ledger.{Setting, Ledger, accessed, after, barred, block_of, cause, cause_in, load, new_ledger, obeyed, or_else, plain_load, row_moved, successors_at, unless, unless_refused}
+use Rattle.ledger.specs.Ledger.{Setting, Ledger, barred, block_of, cause, cause_in, load, new_ledger, obeyed, or_else, plain_load, row_moved, successors_at, unless, unless_refused}
 use Rattle.ledger.specs.Histories.{Heard, HitsWhatTheRowHas, Honest, LoadsAreBounded, LoadsWithin, ledger_of, row_after}
 use Rattle.ledger.specs.declared.Call.{Call}
 use Rattle.ledger.specs.declared.Call.TheVariants.{Step, Finish, Interrupt, Touch, Resume}

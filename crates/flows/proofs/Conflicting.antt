@@ -1,6 +1,6 @@
 -- The rule for rows of conflict sets covers the rule for the conflict sets of blocks, and settled conflict sets obey it along each
 -- edge. Assumes nothing.
-use Rattle.std.proofs.Common.{◌≡◌, ℕ, zero, suc, ◌+◌, ◌^◌, ◌<◌, ◌≤◌, Bool, true, false, cond, ◌||◌, eqb, ltb, ◌⊎◌, List, [], ◌∷◌, length, get_or, Some, None, Option, sym, refl, ap, ◌∙◌, subst, inl, inr, ⊎_elim, zero-add, arith}
+use Rattle.std.proofs.Common.{◌≡◌, ℕ, ◌^◌, ◌<◌, Bool, true, false, cond, eqb, ltb, List, [], length, get_or, Some, None, Option, sym, refl, ap, ◌∙◌, subst, ⊎_elim, zero-add, arith}
 use lib.Bits.{bit_or}
 use Rattle.std.proofs.lemmas.Bool.{both_ways, eqb-true, lt-ltb, or_cases}
 use Rattle.recency.specs.Blocks.{has, set_of}
@@ -9,7 +9,6 @@ use Rattle.task.specs.Contents.{TaskContents, point_with}
 use Rattle.task.specs.Legal.{legal}
 use Rattle.cells.specs.Cells.{each}
 use Rattle.cells.proofs.Lists.{getD_each}
-use Rattle.fixpoint.specs.declared.direction.Direction.TheVariants.{Forward}
 use Rattle.rowkinds.specs.BlockSets.{block_sets, filled_up}
 use Rattle.blocksets.specs.Members.{Holds, with_block}
 use Rattle.blocksets.specs.declared.BlockSet.{BlockSet}

@@ -1,12 +1,11 @@
 -- The resilient number of a point, counted over indices, is that counted over blocks. Assumes nothing.
-use Rattle.std.proofs.Common.{◌≡◌, ℕ, zero, suc, ◌+◌, ◌<◌, ◌≤◌, min, Bool, true, false, cond, ◌&&◌, eqb, ltb, leb, List, [], ◌∷◌, length, get_or, Some, None, filter, Option, sym, refl, ap, ◌∙◌, subst, arith}
+use Rattle.std.proofs.Common.{◌≡◌, ℕ, zero, suc, ◌+◌, ◌<◌, min, Bool, true, false, cond, ◌&&◌, eqb, ltb, List, [], ◌∷◌, length, get_or, Some, None, filter, Option, sym, refl, ap, ◌∙◌, arith}
 use Rattle.std.specs.List.{slice_get, AllByRecursion as All}
 use Rattle.std.proofs.lemmas.Option.{slice_get-get_or}
 use Rattle.recency.specs.Blocks.{has, set_of}
 use Rattle.task.specs.Blocks.{access_at, access_index}
 use Rattle.task.specs.Contents.{TaskContents}
 use Rattle.task.specs.Legal.{legal}
-use Rattle.fixpoint.specs.Kinds.{Meaning, Laws}
 use Rattle.rowkinds.specs.Ages.{age_list}
 use Rattle.rowkinds.specs.declared.ages.Ages.{Ages}
 use Rattle.rowkinds.specs.Laws.{ages_laws}
@@ -14,14 +13,14 @@ use Rattle.conflicts.specs.Laws.{conflicts_laws}
 use Rattle.widest.specs.Laws.{next_uses_laws}
 use Rattle.widest.specs.NextUses.{count_list}
 use Rattle.numbers.specs.Counts.{count_below, sum_below}
-use Rattle.numbers.specs.Numbers.{below, evicting_in, if_evicting, is_in, is_evicting_in, is_reached_in, reached, reached_in, useful}
+use Rattle.numbers.specs.Numbers.{below, evicting_in, if_evicting, is_reached_in, reached, reached_in}
 use Rattle.rowkinds.specs.BlockSets.{block_sets, filled_up}
 use Rattle.tables.specs.Rows.{settled_rows, view_at}
 use Rattle.tables.proofs.OwnNotes.{own_index}
 use Rattle.tables.specs.Tables.{age_kind, blocks, conflict_kind, next_use_kind, settled_ages, settled_reuses, settled_conflicts, settled_widest, use_note}
 use Rattle.ledger.specs.Ledger.{resilient_at}
 use Rattle.soundness.specs.Flows.{counted_below, counted_in, enough, evictors, is_counted, resilient, reuse_at, widest_at}
-use Rattle.flows.specs.Of.{age_of, findings_of, flow_of, index}
+use Rattle.flows.specs.Of.{findings_of, flow_of, index}
 use Rattle.flows.proofs.Indexes.{has_at, index_at}
 use Rattle.flows.proofs.Facts.{distinct_blocks_of, few_blocks, own_block, ages_settled, reuses_settled, conflicts_settled, widest_settled}
 use Rattle.flows.proofs.Aging.{aged_row}

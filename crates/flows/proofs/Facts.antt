@@ -1,5 +1,5 @@
 -- What is known of a legal task and of its settled tables. Assumes nothing.
-use Rattle.std.proofs.Common.{◌≡◌, ℕ, zero, suc, ◌<◌, ◌≤◌, Bool, true, false, ◌&&◌, ◌||◌, eqb, ltb, List, [], ◌∷◌, length, get_or, Some, None, Option, sym, refl, ap, ◌∙◌, subst, inl, inr, ⊎_elim, arith}
+use Rattle.std.proofs.Common.{◌≡◌, ℕ, zero, suc, ◌<◌, ◌≤◌, Bool, true, false, ◌||◌, eqb, ltb, List, [], ◌∷◌, length, get_or, Some, None, sym, refl, ap, ◌∙◌, subst, ⊎_elim, arith}
 use Rattle.std.specs.List.{AllByRecursion as All}
 use Rattle.std.proofs.lemmas.Bool.{and_parts, both_ways, eq-eqb, ltb-true, or_cases, eqb-true}
 use Rattle.recency.specs.Blocks.{distinct, has}
@@ -10,7 +10,7 @@ use Rattle.task.specs.Lists.{every}
 use Rattle.task.proofs.Blocks.{lists_each_access_once}
 use Rattle.task.proofs.Drafting.{kept}
 use Rattle.fixpoint.specs.Kinds.{Meaning}
-use Rattle.fixpoint.specs.Rounds.{Job, size, advanced}
+use Rattle.fixpoint.specs.Rounds.{Job, size}
 use Rattle.fixpoint.specs.Graph.{is_input}
 use Rattle.fixpoint.specs.Settled.{Settled}
 use Rattle.fixpoint.proofs.Always.{always_settled}

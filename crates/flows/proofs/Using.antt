@@ -1,5 +1,5 @@
 -- The rule for rows of widest next uses is the rule for those of blocks, and settled ones obey it along each edge. Assumes nothing.
-use Rattle.std.proofs.Common.{◌≡◌, ℕ, zero, suc, ◌+◌, ◌<◌, ◌≤◌, Bool, true, false, cond, eqb, ltb, ◌⊎◌, List, [], ◌∷◌, length, get_or, set, Some, None, Option, sym, refl, ap, ◌∙◌, subst, inl, inr, ⊎_elim, zero-add, arith, get_or-set_other, get_or-set_same}
+use Rattle.std.proofs.Common.{◌≡◌, ℕ, zero, suc, ◌+◌, ◌<◌, ◌≤◌, true, cond, List, [], ◌∷◌, length, get_or, set, Some, None, Option, sym, refl, ap, ◌∙◌, subst, ⊎_elim, arith, get_or-set_other, get_or-set_same}
 use Rattle.std.proofs.lemmas.Bool.{cases_eq, eq-eqb, ne_eqb, lt-ltb}
 use Rattle.recency.specs.Blocks.{has}
 use Rattle.task.specs.Blocks.{access_at, access_index}
@@ -11,7 +11,6 @@ use Rattle.blocksets.specs.declared.BlockSet.{BlockSet}
 use Rattle.conflicts.specs.Conflicts.{OwnConflict, conflict_cell, conflict_list}
 use Rattle.conflicts.specs.declared.Conflicts.{Conflicts}
 use Rattle.widest.specs.NextUses.{count_cell, count_list, level, next_uses_row}
-use Rattle.widest.specs.declared.next_uses.NextUse.{NextUse}
 use Rattle.widest.specs.declared.next_uses.NextUses.{NextUses}
 use Rattle.tables.specs.Tables.{access_notes, blocks, conflict_kind, next_use_job, next_use_kind, settled_conflicts, settled_widest, size_of, use_note, use_notes}
 use Rattle.tables.proofs.OwnNotes.{access_notes_at, length_access_notes, length_use_notes, use_notes_at}

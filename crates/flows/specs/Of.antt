@@ -1,5 +1,5 @@
 -- A task and its settled tables by points and blocks.
-use Rattle.std.specs.Prelude.{ℕ, suc, Bool, cond, List, [], ◌∷◌, get_or, Some, None, Option, ◌==◌, slice_index, slice_index_or}
+use Rattle.std.specs.Prelude.{ℕ, suc, cond, List, [], ◌∷◌, get_or, Some, None, Option, ◌==◌, slice_index, slice_index_or}
 use Rattle.task.specs.Blocks.{access_at}
 use Rattle.task.specs.Contents.{TaskContents, point_with}
 use Rattle.rowkinds.specs.Ages.{age_list}
