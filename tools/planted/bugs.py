@@ -37,7 +37,7 @@ BUGS = [
     ("fixpoint", "src/solve.rt", "let mut all = kind.start();", "let mut all = rows[p];", "the merge begins from the old row"),
     ("fixpoint", "src/solve.rt", "changed |= !kept;", "changed = !kept;", "only the last point of a round counts as changed"),
     ("fixpoint", "src/graph.rt", "Direction::Backward => leads_to(&points[p], q)", "Direction::Backward => leads_to(&points[q], p)", "a backward table over predecessors"),
-    ("ages", "src/kind.rt", "let old = ages[b];", "let old = ways;", "all blocks of the set grow older"),
+    ("rowkinds", "src/ages/kind.rt", "let old = ages[b];", "let old = ways;", "all blocks of the set grow older"),
     ("widest", "src/next_uses/kind.rt", "if access.block < self.blocks as usize {\n                after.counts[access.block] = access.conflicts;\n            }", "if access.block < self.blocks as usize && access.conflicts.is_some() {\n                after.counts[access.block] = access.conflicts;\n            }", "an access without count keeps the old one"),
     ("blocksets", "src/lib.rt", "mask: self.mask | 1 << block", "mask: self.mask ^ 1 << block", "a block added twice is gone"),
     ("conflicts", "src/kind.rt", "(true, None) => None", "(true, None) => Some(BlockSet::empty())", "a block never accessed gets a set"),
