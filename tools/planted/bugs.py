@@ -58,7 +58,7 @@ BUGS = [
     ("bench", "src/methods.rt", "let life = cache.life();", "let life = task.parameters().ways;", "the life of the cache taken for granted"),
     ("replaying", "src/play.rt", "let counts = bench.read();\n", "let counts = bench.read();\n        let _ = bench.interrupt();\n", "an interruption after each call"),
     # text
-    ("report", "src/lib.rt", "let cost = u64::from(largest) * u64::from(reload);", "let cost = u64::from(largest) + u64::from(reload);", "the cost as a sum"),
+    ("sheettext", "src/lib.rt", "let cost = u64::from(largest) * u64::from(reload);", "let cost = u64::from(largest) + u64::from(reload);", "the cost as a sum"),
     ("runtext", "src/hex.rt", "b'a'..=b'f' => Some(c - b'a' + 10)", "b'a'..=b'f' => Some(c - b'a' + 9)", "hexadecimal letters one too low"),
     ("runtext", "src/calls.rt", "line.strip_prefix(\"touch \")", "line.strip_prefix(\"touc \")", "a touch that is not understood"),
     ("answer", "src/lib.rt", "text: refusal_line(heap, fault)?,", "text: String::from_str(heap, \"refused\\n\")?,", "a refusal without its number"),
