@@ -37,7 +37,7 @@ BUGS = [
     ("fixpoint", "src/solve.rt", "let mut all = kind.start();", "let mut all = rows[p];", "the merge begins from the old row"),
     ("fixpoint", "src/solve.rt", "changed |= !kept;", "changed = !kept;", "only the last point of a round counts as changed"),
     ("fixpoint", "src/graph.rt", "Direction::Backward => leads_to(&points[p], q)", "Direction::Backward => leads_to(&points[q], p)", "a backward table over predecessors"),
-    ("ages", "src/kind.rt", "let old = ages[b];", "let old = ways;", "all blocks of the set grow older"),
+    ("rowkinds", "src/ages/kind.rt", "let old = ages[b];", "let old = ways;", "all blocks of the set grow older"),
     ("widest", "src/next_uses/kind.rt", "if access.block < self.blocks as usize {\n                after.counts[access.block] = access.conflicts;\n            }", "if access.block < self.blocks as usize && access.conflicts.is_some() {\n                after.counts[access.block] = access.conflicts;\n            }", "an access without count keeps the old one"),
     ("blocksets", "src/lib.rt", "mask: self.mask | 1 << block", "mask: self.mask ^ 1 << block", "a block added twice is gone"),
     ("conflicts", "src/kind.rt", "(true, None) => None", "(true, None) => Some(BlockSet::empty())", "a block never accessed gets a set"),
@@ -58,7 +58,7 @@ BUGS = [
     ("bench", "src/methods.rt", "let life = cache.life();", "let life = task.parameters().ways;", "the life of the cache taken for granted"),
     ("replaying", "src/play.rt", "let counts = bench.read();\n", "let counts = bench.read();\n        let _ = bench.interrupt();\n", "an interruption after each call"),
     # text
-    ("report", "src/lib.rt", "let cost = u64::from(largest) * u64::from(reload);", "let cost = u64::from(largest) + u64::from(reload);", "the cost as a sum"),
+    ("sheettext", "src/lib.rt", "let cost = u64::from(largest) * u64::from(reload);", "let cost = u64::from(largest) + u64::from(reload);", "the cost as a sum"),
     ("runtext", "src/hex.rt", "b'a'..=b'f' => Some(c - b'a' + 10)", "b'a'..=b'f' => Some(c - b'a' + 9)", "hexadecimal letters one too low"),
     ("runtext", "src/calls.rt", "line.strip_prefix(\"touch \")", "line.strip_prefix(\"touc \")", "a touch that is not understood"),
     ("answer", "src/lib.rt", "text: refusal_line(heap, fault)?,", "text: String::from_str(heap, \"refused\\n\")?,", "a refusal without its number"),

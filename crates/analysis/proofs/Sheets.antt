@@ -8,6 +8,7 @@ use Rattle.conflicts.specs.declared.Conflicts.{Conflicts}
 use Rattle.numbers.specs.Numbers.{numbers, view}
 use Rattle.numbers.specs.declared.PointNumbers.{PointNumbers}
 use Rattle.widest.specs.declared.next_uses.NextUses.{NextUses}
+use Rattle.tables.proofs.Settles.{ages_value, conflicts_value, reuses_value, widest_value}
 use Rattle.tables.specs.Answers.{AllSettled}
 use Rattle.tables.specs.Rows.{Rows, numbers_at, settled_rows, shortest}
 use Rattle.tables.specs.Tables.{age_kind, blocks, conflict_kind, next_use_kind, use_note}
@@ -47,10 +48,10 @@ module _ (t : TaskContents) (rows other : Rows) (n : ℕ) (ages : take n rows.ag
 
 -- settled tables
 module _ (t : TaskContents) (before after : Rows) (rounds : Rounds) (all : AllSettled t before after rounds) where
-  pub settled_sheet : sheet_below t after (length t.points) ≡ sheet t
-  settled_sheet =
+  pub settled_sheet : length (blocks t) ≤ 64 → sheet_below t after (length t.points) ≡ sheet t
+  settled_sheet few =
       same_sheet t after (settled_rows t) (length t.points)
-      (same_numbers t after (settled_rows t) (length t.points) all.ages.settled.value all.reuses.settled.value all.conflicts.settled.value all.widest.settled.value)
+      (same_numbers t after (settled_rows t) (length t.points) (ages_value t few before after rounds all) (reuses_value t few before after rounds all) (conflicts_value t few before after rounds all) (widest_value t few before after rounds all))
 
   long : {X : Type 0} (xs : List X) → length (take (length t.points) xs) ≡ length t.points → length t.points ≤ length xs
   long xs e = let m = length-take (length t.points) xs in omega (arith, m, e)

@@ -1,5 +1,5 @@
 -- What analysing a task answers.
-use Rattle.std.specs.Prelude.{◌≡◌, ℕ, ◌<◌, ◌≤◌, ◌⊎◌, List, length, take, drop, Ok, Err, Result}
+use Rattle.std.specs.Prelude.{◌≡◌, ◌<◌, ◌≤◌, ◌⊎◌, List, length, take, drop, Ok, Err, Result}
 use Rattle.task.specs.Contents.{TaskContents}
 use Rattle.fixpoint.specs.declared.fault.ShortTable.{ShortTable}
 use Rattle.numbers.specs.declared.PointNumbers.{PointNumbers}

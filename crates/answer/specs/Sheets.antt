@@ -1,5 +1,5 @@
 -- What the analysis of a whole task holds.
-use Rattle.std.specs.Prelude.{◌≡◌, ℕ, length, take}
+use Rattle.std.specs.Prelude.{◌≡◌, length, take}
 use Rattle.task.specs.Contents.{TaskContents}
 use Rattle.fixpoint.specs.Settled.{Settled, settled_table}
 use Rattle.tables.specs.Tables.{age_job, age_kind, conflict_kind, next_use_job, next_use_kind, reuse_job}

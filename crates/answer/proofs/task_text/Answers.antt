@@ -1,4 +1,4 @@
-use Rattle.std.proofs.Common.{◌≡◌, ℕ, ◌-◌, ◌≤◌, List, length, take, IfOk, string_bytes, sym, ap, ◌∙◌, subst, arith}
+use Rattle.std.proofs.Common.{◌≡◌, ℕ, ◌-◌, length, take, IfOk, string_bytes, sym, ap, ◌∙◌, subst, arith}
 use lib.ListN.{length-map}
 use Rattle.task.specs.Meaning.{point_contents}
 use Rattle.task.specs.Tasks.{contents}
@@ -7,8 +7,8 @@ use Rattle.analysis.specs.Sheets.{largest, sheet}
 use Rattle.sheettext.specs.Sheets.{analysis_text}
 use Rattle.answer.proofs.task_text.Goals as goal
 
-pub slice-bounds-analysis_text-end : goal.slice-bounds-analysis_text-end
-slice-bounds-analysis_text-end c =
+pub slice_bounds-analysis_text-end : goal.slice_bounds-analysis_text-end
+slice_bounds-analysis_text-end c =
     let t = contents c.args.task.now in
     let n = sym (length-map c.points-n.result.now point_contents) ∙ ap length c.points-n.ensures in
     let few = (kept t c.args.task.now.draft.legal).points_few in
