@@ -1,5 +1,5 @@
 -- A block is found in a list exactly where the list has it. Assumes nothing.
-use Rattle.std.proofs.Common.{◌≡◌, ℕ, suc, Bool, true, false, cond, ◌||◌, eqb, List, [], ◌∷◌, Some, None, Option, refl, ap, ◌∙◌, arith}
+use Rattle.std.proofs.Common.{◌≡◌, ℕ, suc, Bool, true, false, cond, ◌||◌, eqb, List, [], ◌∷◌, Some, None, refl, arith}
 use Rattle.recency.specs.Blocks.{has}
 use Rattle.task.specs.Lists.{first_from}
 

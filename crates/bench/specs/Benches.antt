@@ -8,6 +8,7 @@ use Rattle.tables.specs.Rows.{Rows}
 use Rattle.tables.specs.declared.Rounds.{Rounds}
 use Rattle.cache.specs.LruState.{lru_row}
 use Rattle.cache.specs.Outcomes.{outcome_of}
+use Rattle.cache.specs.declared.Cache.{Ghosts}
 use Rattle.cache.specs.declared.outcome.Outcome.{Outcome}
 use Rattle.cache.specs.declared.outcome.Outcome.TheVariants.{Hit, Miss}
 use Rattle.ledger.specs.Ledger.{Setting, Ledger, accessed, after, barred, cause, ledger_with}
@@ -21,10 +22,10 @@ use Rattle.bench.specs.declared.answer.Answer.{Answer}
 use Rattle.bench.specs.declared.answer.Answer.TheVariants.{Access, NoAccess, Done}
 use Rattle.bench.specs.declared.fault.BenchFault.{BenchFault}
 
-abbrev pub setting_of : {C : Type 0} → Bench C → Setting
+abbrev pub setting_of : {C : Type 0} {g : Ghosts C} → Bench C g → Setting
 setting_of b = setting_with (contents b.task.now) b.room b.sets b.life
 
-abbrev pub ledger_in : {C : Type 0} → Bench C → Ledger
+abbrev pub ledger_in : {C : Type 0} {g : Ghosts C} → Bench C g → Ledger
 ledger_in b = ledger_with b.state b.point b.counts (lru_row b.plain)
 
 -- the tables of a new bench: settled after some rounds, or as they were where the bench is barred
@@ -98,8 +99,8 @@ module _ {C : Type 0} (sets life : C → ℕ) (holds : C → ℕ → Bool) (vouc
     pub vouched : vouches c (row_after S history)
 
   -- the same, of a bench
-  abbrev pub Calls : Bench C → Call → Result Answer BenchFault → Bench C → Type 0
+  abbrev pub Calls : {g : Ghosts C} → Bench C g → Call → Result Answer BenchFault → Bench C g → Type 0
   Calls b call r d = Called (setting_of b) call b.cache (ledger_in b) r d.cache (ledger_in d)
 
-  abbrev pub IsExplained : Bench C → Type 0
+  abbrev pub IsExplained : {g : Ghosts C} → Bench C g → Type 0
   IsExplained b = Explained (setting_of b) b.cache (ledger_in b)

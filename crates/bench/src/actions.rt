@@ -23,7 +23,7 @@ impl<'t, C: Cache> Bench<'t, C> {
     pub(crate) fn walk(&mut self, to: usize) -> Result<Answer, BenchFault>
         requires unbarred { barred (setting_of self.old) ≡ None }
         requires state { self.old.state ≡ Walking }
-        ensures called { Calls sets life holds vouches self.old (Step to) result self.new }
+        ensures called { Calls C.sets C.life C.holds C.vouches self.old (Step to) result self.new }
         ensures setting { setting_of self.new ≡ setting_of self.old }
         ensures refused { Stays result self.old self.new }
     {
@@ -42,7 +42,7 @@ impl<'t, C: Cache> Bench<'t, C> {
     pub(crate) fn leave(&mut self) -> Result<Answer, BenchFault>
         requires unbarred { barred (setting_of self.old) ≡ None }
         requires state { self.old.state ≡ Walking }
-        ensures called { Calls sets life holds vouches self.old Finish result self.new }
+        ensures called { Calls C.sets C.life C.holds C.vouches self.old Finish result self.new }
         ensures setting { setting_of self.new ≡ setting_of self.old }
         ensures refused { Stays result self.old self.new }
     {
@@ -60,9 +60,9 @@ impl<'t, C: Cache> Bench<'t, C> {
     // Performs the point's access on the cache and on the plain lists, and counts a step, with what was loaded.
     fn perform(&mut self) -> Answer
         requires { self.old.counts.steps < 60000 }
-        ensures says { result ≡ answer_of (holds self.old.cache) NoAccess (access_at (setting_of self.old).task.points self.old.point) }
+        ensures says { result ≡ answer_of (C.holds self.old.cache) NoAccess (access_at (setting_of self.old).task.points self.old.point) }
         ensures counts { ledger_in self.new ≡ stepped (setting_of self.old) (ledger_in self.old) (said_hit (Ok result)) self.old.state self.old.point }
-        ensures accesses { Accesses sets life holds vouches (access_at (setting_of self.old).task.points self.old.point) self.old.cache self.new.cache }
+        ensures accesses { Accesses C.sets C.life C.holds C.vouches (access_at (setting_of self.old).task.points self.old.point) self.old.cache self.new.cache }
         ensures setting { setting_of self.new ≡ setting_of self.old }
     {
         self.counts.steps += 1;
@@ -79,7 +79,7 @@ impl<'t, C: Cache> Bench<'t, C> {
     pub(crate) fn break_off(&mut self) -> Result<Answer, BenchFault>
         requires unbarred { barred (setting_of self.old) ≡ None }
         requires state { self.old.state ≡ Walking }
-        ensures called { Calls sets life holds vouches self.old Interrupt result self.new }
+        ensures called { Calls C.sets C.life C.holds C.vouches self.old Interrupt result self.new }
         ensures setting { setting_of self.new ≡ setting_of self.old }
         ensures refused { Stays result self.old self.new }
     {
@@ -96,7 +96,7 @@ impl<'t, C: Cache> Bench<'t, C> {
     pub(crate) fn disturb(&mut self, block: u32) -> Result<Answer, BenchFault>
         requires unbarred { barred (setting_of self.old) ≡ None }
         requires state { self.old.state ≡ Interrupted }
-        ensures called { Calls sets life holds vouches self.old (Touch block) result self.new }
+        ensures called { Calls C.sets C.life C.holds C.vouches self.old (Touch block) result self.new }
         ensures setting { setting_of self.new ≡ setting_of self.old }
         ensures refused { Stays result self.old self.new }
     {

@@ -13,73 +13,73 @@ use ledger::{Call, State};
 impl<'t, C: Cache> Bench<'t, C> {
     // Obeys the call, or refuses it and stays as it was.
     pub fn call(&mut self, call: Call) -> Result<Answer, BenchFault>
-        ensures called { Calls sets life holds vouches self.old call result self.new }
+        ensures called { Calls C.sets C.life C.holds C.vouches self.old call result self.new }
         ensures setting { setting_of self.new ≡ setting_of self.old }
         ensures refused { Stays result self.old self.new }
-        ensures explained { IsExplained sets life holds vouches self.old → IsExplained sets life holds vouches self.new }
-        ensures bounded { IsExplained sets life holds vouches self.new → LoadsWithin (ledger_in self.new) }
+        ensures explained { IsExplained C.sets C.life C.holds C.vouches self.old → IsExplained C.sets C.life C.holds C.vouches self.new }
+        ensures bounded { IsExplained C.sets C.life C.holds C.vouches self.new → LoadsWithin (ledger_in self.new) }
     {
         self.obey(call)
     }
 
     // Performs the point's access, and moves to a successor.
     pub fn step(&mut self, to: usize) -> Result<Answer, BenchFault>
-        ensures called { Calls sets life holds vouches self.old (Step to) result self.new }
+        ensures called { Calls C.sets C.life C.holds C.vouches self.old (Step to) result self.new }
         ensures setting { setting_of self.new ≡ setting_of self.old }
         ensures refused { Stays result self.old self.new }
-        ensures explained { IsExplained sets life holds vouches self.old → IsExplained sets life holds vouches self.new }
-        ensures bounded { IsExplained sets life holds vouches self.new → LoadsWithin (ledger_in self.new) }
+        ensures explained { IsExplained C.sets C.life C.holds C.vouches self.old → IsExplained C.sets C.life C.holds C.vouches self.new }
+        ensures bounded { IsExplained C.sets C.life C.holds C.vouches self.new → LoadsWithin (ledger_in self.new) }
     {
         self.call(Call::Step(to))
     }
 
     // Performs the access of an exit, and ends the run.
     pub fn finish(&mut self) -> Result<Answer, BenchFault>
-        ensures called { Calls sets life holds vouches self.old Finish result self.new }
+        ensures called { Calls C.sets C.life C.holds C.vouches self.old Finish result self.new }
         ensures setting { setting_of self.new ≡ setting_of self.old }
         ensures refused { Stays result self.old self.new }
-        ensures explained { IsExplained sets life holds vouches self.old → IsExplained sets life holds vouches self.new }
-        ensures bounded { IsExplained sets life holds vouches self.new → LoadsWithin (ledger_in self.new) }
+        ensures explained { IsExplained C.sets C.life C.holds C.vouches self.old → IsExplained C.sets C.life C.holds C.vouches self.new }
+        ensures bounded { IsExplained C.sets C.life C.holds C.vouches self.new → LoadsWithin (ledger_in self.new) }
     {
         self.call(Call::Finish)
     }
 
     // Begins an interruption.
     pub fn interrupt(&mut self) -> Result<Answer, BenchFault>
-        ensures called { Calls sets life holds vouches self.old Interrupt result self.new }
+        ensures called { Calls C.sets C.life C.holds C.vouches self.old Interrupt result self.new }
         ensures setting { setting_of self.new ≡ setting_of self.old }
         ensures refused { Stays result self.old self.new }
-        ensures explained { IsExplained sets life holds vouches self.old → IsExplained sets life holds vouches self.new }
-        ensures bounded { IsExplained sets life holds vouches self.new → LoadsWithin (ledger_in self.new) }
+        ensures explained { IsExplained C.sets C.life C.holds C.vouches self.old → IsExplained C.sets C.life C.holds C.vouches self.new }
+        ensures bounded { IsExplained C.sets C.life C.holds C.vouches self.new → LoadsWithin (ledger_in self.new) }
     {
         self.call(Call::Interrupt)
     }
 
     // One access of an evicting block, while interrupted.
     pub fn touch(&mut self, block: u32) -> Result<Answer, BenchFault>
-        ensures called { Calls sets life holds vouches self.old (Touch block) result self.new }
+        ensures called { Calls C.sets C.life C.holds C.vouches self.old (Touch block) result self.new }
         ensures setting { setting_of self.new ≡ setting_of self.old }
         ensures refused { Stays result self.old self.new }
-        ensures explained { IsExplained sets life holds vouches self.old → IsExplained sets life holds vouches self.new }
-        ensures bounded { IsExplained sets life holds vouches self.new → LoadsWithin (ledger_in self.new) }
+        ensures explained { IsExplained C.sets C.life C.holds C.vouches self.old → IsExplained C.sets C.life C.holds C.vouches self.new }
+        ensures bounded { IsExplained C.sets C.life C.holds C.vouches self.new → LoadsWithin (ledger_in self.new) }
     {
         self.call(Call::Touch(block))
     }
 
     // Ends the interruption.
     pub fn resume(&mut self) -> Result<Answer, BenchFault>
-        ensures called { Calls sets life holds vouches self.old Resume result self.new }
+        ensures called { Calls C.sets C.life C.holds C.vouches self.old Resume result self.new }
         ensures setting { setting_of self.new ≡ setting_of self.old }
         ensures refused { Stays result self.old self.new }
-        ensures explained { IsExplained sets life holds vouches self.old → IsExplained sets life holds vouches self.new }
-        ensures bounded { IsExplained sets life holds vouches self.new → LoadsWithin (ledger_in self.new) }
+        ensures explained { IsExplained C.sets C.life C.holds C.vouches self.old → IsExplained C.sets C.life C.holds C.vouches self.new }
+        ensures bounded { IsExplained C.sets C.life C.holds C.vouches self.new → LoadsWithin (ledger_in self.new) }
     {
         self.call(Call::Resume)
     }
 
     // The bar first, then what the state and the call say.
     fn obey(&mut self, call: Call) -> Result<Answer, BenchFault>
-        ensures called { Calls sets life holds vouches self.old call result self.new }
+        ensures called { Calls C.sets C.life C.holds C.vouches self.old call result self.new }
         ensures setting { setting_of self.new ≡ setting_of self.old }
         ensures refused { Stays result self.old self.new }
     {

@@ -20,12 +20,12 @@ impl<'t, C: Cache> Bench<'t, C> {
     // A bench at the task's first point. Where a table is short or the cache does not fit the task, the tables stay as
     // they were, and the bench refuses every call.
     pub fn new(task: &'t Task, tables: &mut Tables<'_>, cache: C) -> Bench<'t, C>
-        ensures setting { setting_of result ≡ setting_with (contents task.now) (shortest (rows_of tables.old)) (sets cache) (life cache) }
+        ensures setting { setting_of result ≡ setting_with (contents task.now) (shortest (rows_of tables.old)) (C.sets cache) (C.life cache) }
         ensures ledger { ledger_in result ≡ new_ledger (setting_of result) }
         ensures cache { result.cache ≡ cache }
         ensures tables { Built (setting_of result) (rows_of tables.old) (rows_of tables.new) }
         ensures lent { SameMemory tables.old tables.new }
-        ensures explained { IsExplained sets life holds vouches result }
+        ensures explained { IsExplained C.sets C.life C.holds C.vouches result }
     {
         let room = tables.len();
         let sets = cache.sets();

@@ -14,7 +14,18 @@ invariant_of-result g c =
     let some : 1 ≤ length t.points = leb-true _ _ (and_parts _ _ c.args.task.now.complete).0 in
     let k = c.kept_numbers-resilient.ensures in
     let l = c.empty_lists.ensures in
-    (omega arith, (k.room, (k.knows, (omega arith, (omega arith, (omega arith, (omega arith, (omega arith, (l.sets, (l.ways, tt))))))))))
+    record {
+      inside = omega arith;
+      numbers = k.room;
+      knows = k.knows;
+      few_steps = omega arith;
+      few_loads = omega arith;
+      few_plain = omega arith;
+      few_interruptions = omega arith;
+      small_charge = omega arith;
+      plain_sets = l.sets;
+      plain_ways = l.ways;
+    }
 
 pub returns : goal.returns
 returns g c =

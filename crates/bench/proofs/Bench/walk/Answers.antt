@@ -13,4 +13,15 @@ invariant_of-self g c =
     let ps = (setting_of s).task.points in
     let follows : has q (successors_at ps s.point) ≡ true = ap (λ p. has q p.successors) (sym c.point_at.ensures) ∙ sym c.is_successor.ensures ∙ c.if-not-is_successor.false in
     let inside = subst (λ S. q < length S.task.points) (sym c.perform-answer.ensures.setting) (successor_inside ps s.point q s.task.now.complete follows) in
-    (inside, (t.numbers, (t.knows, (t.few_steps, (t.few_loads, (t.few_plain, (t.few_interruptions, (t.small_charge, (t.plain_sets, (t.plain_ways, tt))))))))))
+    record {
+      inside = inside;
+      numbers = t.numbers;
+      knows = t.knows;
+      few_steps = t.few_steps;
+      few_loads = t.few_loads;
+      few_plain = t.few_plain;
+      few_interruptions = t.few_interruptions;
+      small_charge = t.small_charge;
+      plain_sets = t.plain_sets;
+      plain_ways = t.plain_ways;
+    }
