@@ -11,6 +11,6 @@ legal_sets sets = nat_le 1 sets && nat_le sets 64
 abbrev pub legal_ways : ℕ → Bool
 legal_ways ways = nat_le 1 ways && nat_le ways 8
 
--- why no cache is made, the sets first; `None` where one is. `can-have` says which ways its kind can have
+-- why no cache is made, the sets first; `None` where one is. `can_have` says which ways its kind can have
 abbrev pub refusal : (ℕ → Bool) → ℕ → ℕ → Option CacheFault
-refusal can-have sets ways = cond (legal_sets sets) (cond (can-have ways) None (Some faults.Ways)) (Some faults.Sets)
+refusal can_have sets ways = cond (legal_sets sets) (cond (can_have ways) None (Some faults.Ways)) (Some faults.Sets)

@@ -1,6 +1,6 @@
 -- The bytes that a field was taken from are the field's bytes. Assumes nothing.
 use Rattle.std.proofs.Common.{◌≡◌, ℕ, ◌+◌, ◌*◌, ◌/◌, ◌%◌, ◌<◌, Bool, true, false, cond, leb, List, [], ◌∷◌, ◌++◌, length, take, drop, Some, None, Option, sym, refl, ap, ◌∙◌, arith, take-append-drop, length-take}
-use Rattle.std.specs.List.{AllByRecursion as All}
+use Rattle.std.specs.List.{AllByRecursion}
 use Rattle.std.proofs.lemmas.Bool.{leb-true, eqb-true}
 use Rattle.std.proofs.lemmas.Bool.Decides.{nat_tests}
 use Rattle.fields.specs.declared.tag.Tag.{Tag}
@@ -48,7 +48,7 @@ judged_back : (place hi lo b : ℕ) (o : Option Tag) (rest : List ℕ) (part : F
 judged_back place hi lo b None rest part at after x y c e = absurd (let z : ◌≡◌ {A = ℕ} 0 1 = cc in omega arith)
 judged_back place hi lo b (Some t) rest part at after x y c e = chosen place hi lo b t rest part at after x y (tag_code b t c) (allows t (hi * 256 + lo)) (leb (hi * 256 + lo) (length rest)) refl refl e
 
-pub field_back : (place : ℕ) (bs : List ℕ) (part : FieldContents) (at : ℕ) (after : List ℕ) → All (λ b. b < 256) bs → field_at place bs ≡ field part at after → bs ≡ field_bytes part ++ after
+pub field_back : (place : ℕ) (bs : List ℕ) (part : FieldContents) (at : ℕ) (after : List ℕ) → AllByRecursion (λ b. b < 256) bs → field_at place bs ≡ field part at after → bs ≡ field_bytes part ++ after
 field_back place [] part at after h e = absurd (let z : ◌≡◌ {A = ℕ} 0 1 = cc in omega arith)
 field_back place (t ∷ []) part at after h e = absurd (let z : ◌≡◌ {A = ℕ} 0 1 = cc in omega arith)
 field_back place (t ∷ hi ∷ []) part at after h e = absurd (let z : ◌≡◌ {A = ℕ} 0 1 = cc in omega arith)

@@ -4,7 +4,7 @@
 mod tag;
 
 ghost use Rattle.std.specs.Prelude.{◌≡◌};
-ghost use Rattle.fields.specs.Layout.{allows as allows-length, contents_of, field_at, tag_of};
+ghost use Rattle.fields.specs.Layout.{allows as allows_length, contents_of, field_at, tag_of};
 ghost use Rattle.fields.specs.Said.{field_contents, number, said};
 
 use tag::Tag;
@@ -101,7 +101,7 @@ fn tag_from(byte: u8) -> Option<Tag>
 }
 
 fn allows(tag: Tag, length: usize) -> bool
-    ensures { result ≡ allows-length tag length }
+    ensures { result ≡ allows_length tag length }
 {
     match tag {
         Tag::Header => length == 6,

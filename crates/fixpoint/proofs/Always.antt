@@ -1,6 +1,6 @@
 -- Every table settles, where equal ranks of rows at or before each other tell equal rows. Assumes nothing.
 use Rattle.std.proofs.Common.{◌≡◌, ℕ, zero, suc, ◌+◌, ◌*◌, ◌≤◌, List, [], ◌∷◌, sym, refl, ap, ◌∙◌, inl, inr, arith}
-use Rattle.std.specs.List.{AllByRecursion as All}
+use Rattle.std.specs.List.{AllByRecursion}
 use Rattle.std.proofs.lemmas.Bool.{cases_lt}
 use Rattle.fixpoint.specs.Kinds.{Meaning, Laws}
 use Rattle.fixpoint.specs.Rounds.{Job, size, after_rounds}
@@ -15,7 +15,7 @@ abbrev pub RankTells : {Row Note : Type 0} → Meaning Row Note → Type 0
 RankTells {Row} M = (a b : Row) → M.own_row a → M.own_row b → M.at_or_before a b → M.rank b ≤ M.rank a → a ≡ b
 
 module _ {Row Note : Type 0} (M : Meaning Row Note) (L : Laws M) (tells : RankTells M) where
-  tables_same : (xs ys : List Row) → All M.own_row xs → All M.own_row ys → Under M xs ys → ranks M ys ≤ ranks M xs → xs ≡ ys
+  tables_same : (xs ys : List Row) → AllByRecursion M.own_row xs → AllByRecursion M.own_row ys → Under M xs ys → ranks M ys ≤ ranks M xs → xs ≡ ys
   tables_same [] [] h k u r = refl
   tables_same [] (y ∷ ys) h k u r = absurd u
   tables_same (x ∷ xs) [] h k u r = absurd u
@@ -26,7 +26,7 @@ module _ {Row Note : Type 0} (M : Meaning Row Note) (L : Laws M) (tells : RankTe
       let f : xs ≡ ys = tables_same xs ys h.1 k.1 u.1 (omega arith) in
       cc
 
-  module _ (J : Job Note) (own_notes : All M.own_note J.notes) where
+  module _ (J : Job Note) (own_notes : AllByRecursion M.own_note J.notes) where
     -- n more rounds may be tried
     found : (n r : ℕ) → n + r ≡ size J * M.height + 1 → Moving M J r → (k : ℕ) × Settled M J k (settled_table M J)
     found zero r e moving = let few = few_rounds M L J own_notes r moving in absurd (omega arith)

@@ -1,13 +1,13 @@
 -- The merge over the inputs of a point is the least row at or beyond each advanced row. Assumes nothing.
 use Rattle.std.proofs.Common.{◌≡◌, ℕ, zero, suc, ◌<◌, Bool, true, false, cond, List, sym, refl, ap, ◌∙◌, subst, arith}
 use native.Mathlib.Decide.{dec_lt}
-use Rattle.std.specs.List.{AllByRecursion as All}
+use Rattle.std.specs.List.{AllByRecursion}
 use Rattle.fixpoint.specs.Kinds.{Meaning, Laws}
 use Rattle.fixpoint.specs.Rounds.{Job, advanced, merged_below}
 use Rattle.fixpoint.proofs.Steps.{feeds, merged_below_more}
 use Rattle.fixpoint.proofs.Rising.{advanced_own, merged_below_own}
 
-module _ {Row Note : Type 0} (M : Meaning Row Note) (L : Laws M) (J : Job Note) (own_notes : All M.own_note J.notes) (xs : List Row) (own : All M.own_row xs) (p : ℕ) where
+module _ {Row Note : Type 0} (M : Meaning Row Note) (L : Laws M) (J : Job Note) (own_notes : AllByRecursion M.own_note J.notes) (xs : List Row) (own : AllByRecursion M.own_row xs) (p : ℕ) where
   pub merged_below_least : (k : ℕ) (c : Row) → M.own_row c → ((q : ℕ) → q < k → feeds J p q ≡ true → M.at_or_before (advanced M J xs J.notes q) c) → M.at_or_before (merged_below M J xs p k) c
   unfolding merged_below
   merged_below_least zero c o h = L.start_least c o

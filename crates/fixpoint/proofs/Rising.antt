@@ -1,7 +1,7 @@
 -- What the laws give of rounds: they keep own rows and the order, and rise. Assumes nothing.
 use Rattle.std.proofs.Common.{◌≡◌, ℕ, zero, suc, ◌<◌, true, false, cond, List, [], ◌∷◌, length, get_or, set, replicate, sym, refl, ap, ◌∙◌, subst, arith}
 use lib.Seq.{set-get_or}
-use Rattle.std.specs.List.{AllZip, AllByRecursion as All}
+use Rattle.std.specs.List.{AllZip, AllByRecursion}
 use Rattle.std.proofs.ByRecursion.{All-set}
 use Rattle.fixpoint.specs.Kinds.{Meaning, Laws}
 use Rattle.fixpoint.specs.Rounds.{Job, size, advanced, merged_below, visits, round, all_start, after_rounds}
@@ -20,13 +20,13 @@ module _ {Row Note : Type 0} (M : Meaning Row Note) (L : Laws M) where
       (L.transitive a c (M.merge c d) oa oc m h (L.merge_left c d oc od))
       (L.transitive b d (M.merge c d) ob od m k (L.merge_right c d oc od))
 
-  pub advanced_own : (J : Job Note) (xs : List Row) (notes : List Note) (q : ℕ) → All M.own_row xs → All M.own_note notes → M.own_row (advanced M J xs notes q)
+  pub advanced_own : (J : Job Note) (xs : List Row) (notes : List Note) (q : ℕ) → AllByRecursion M.own_row xs → AllByRecursion M.own_note notes → M.own_row (advanced M J xs notes q)
   advanced_own J [] notes q h k = L.start_own
   advanced_own J (x ∷ xs) [] q h k = L.start_own
   advanced_own J (x ∷ xs) (m ∷ notes) zero h k = L.advance_own x m h.0 k.0
   advanced_own J (x ∷ xs) (m ∷ notes) (suc q) h k = advanced_own J xs notes q h.1 k.1
 
-  pub advanced_under : (J : Job Note) (xs ys : List Row) (notes : List Note) (q : ℕ) → All M.own_row xs → All M.own_row ys → All M.own_note notes → Under M xs ys → M.at_or_before (advanced M J xs notes q) (advanced M J ys notes q)
+  pub advanced_under : (J : Job Note) (xs ys : List Row) (notes : List Note) (q : ℕ) → AllByRecursion M.own_row xs → AllByRecursion M.own_row ys → AllByRecursion M.own_note notes → Under M xs ys → M.at_or_before (advanced M J xs notes q) (advanced M J ys notes q)
   advanced_under J [] [] notes q h k f u = L.reflexive M.start L.start_own
   advanced_under J [] (y ∷ ys) notes q h k f u = absurd u
   advanced_under J (x ∷ xs) [] notes q h k f u = absurd u
@@ -48,16 +48,16 @@ module _ {Row Note : Type 0} (M : Meaning Row Note) (L : Laws M) where
   under_at (x ∷ xs) (y ∷ ys) zero u = u.0
   under_at (x ∷ xs) (y ∷ ys) (suc i) u = under_at xs ys i u.1
 
-  pub all_start_own : (n : ℕ) → All M.own_row (replicate n M.start)
+  pub all_start_own : (n : ℕ) → AllByRecursion M.own_row (replicate n M.start)
   all_start_own zero = tt
   all_start_own (suc n) = (L.start_own, all_start_own n)
 
-  pub all_start_under : (xs : List Row) → All M.own_row xs → Under M (replicate (length xs) M.start) xs
+  pub all_start_under : (xs : List Row) → AllByRecursion M.own_row xs → Under M (replicate (length xs) M.start) xs
   all_start_under [] h = tt
   all_start_under (x ∷ xs) h = (L.start_least x h.0, all_start_under xs h.1)
 
-  module _ (J : Job Note) (own_notes : All M.own_note J.notes) where
-    pub merged_below_own : (xs : List Row) (p k : ℕ) → All M.own_row xs → M.own_row (merged_below M J xs p k)
+  module _ (J : Job Note) (own_notes : AllByRecursion M.own_note J.notes) where
+    pub merged_below_own : (xs : List Row) (p k : ℕ) → AllByRecursion M.own_row xs → M.own_row (merged_below M J xs p k)
     unfolding merged_below
     merged_below_own xs p zero h = L.start_own
     merged_below_own xs p (suc k) h =
@@ -67,7 +67,7 @@ module _ {Row Note : Type 0} (M : Meaning Row Note) (L : Laws M) where
           | false ↦ g
         ]
 
-    pub merged_below_under : (xs ys : List Row) (p k : ℕ) → All M.own_row xs → All M.own_row ys → Under M xs ys → M.at_or_before (merged_below M J xs p k) (merged_below M J ys p k)
+    pub merged_below_under : (xs ys : List Row) (p k : ℕ) → AllByRecursion M.own_row xs → AllByRecursion M.own_row ys → Under M xs ys → M.at_or_before (merged_below M J xs p k) (merged_below M J ys p k)
     unfolding merged_below
     merged_below_under xs ys p zero h k u = L.reflexive M.start L.start_own
     merged_below_under xs ys p (suc q) h k u =
@@ -77,19 +77,19 @@ module _ {Row Note : Type 0} (M : Meaning Row Note) (L : Laws M) where
           | false ↦ g
         ]
 
-    pub visits_own : (xs : List Row) (k : ℕ) → All M.own_row xs → All M.own_row (visits M J k xs)
+    pub visits_own : (xs : List Row) (k : ℕ) → AllByRecursion M.own_row xs → AllByRecursion M.own_row (visits M J k xs)
     unfolding visits
     visits_own xs zero h = h
     visits_own xs (suc k) h = let o = visits_own xs k h in All-set M.own_row (visits M J k xs) (place J k) _ (merged_below_own (visits M J k xs) (place J k) (size J) o) o
 
-    pub visits_under : (xs ys : List Row) (k : ℕ) → All M.own_row xs → All M.own_row ys → Under M xs ys → Under M (visits M J k xs) (visits M J k ys)
+    pub visits_under : (xs ys : List Row) (k : ℕ) → AllByRecursion M.own_row xs → AllByRecursion M.own_row ys → Under M xs ys → Under M (visits M J k xs) (visits M J k ys)
     unfolding visits
     visits_under xs ys zero h o u = u
     visits_under xs ys (suc k) h o u =
         let w = visits_under xs ys k h o u in
         under_set (visits M J k xs) (visits M J k ys) (place J k) _ _ w (merged_below_under (visits M J k xs) (visits M J k ys) (place J k) (size J) (visits_own xs k h) (visits_own ys k o) w)
 
-    pub after_rounds_own : (k : ℕ) → All M.own_row (after_rounds M J k)
+    pub after_rounds_own : (k : ℕ) → AllByRecursion M.own_row (after_rounds M J k)
     unfolding after_rounds
     after_rounds_own zero = all_start_own (size J)
     after_rounds_own (suc k) = visits_own (after_rounds M J k) (size J) (after_rounds_own k)
@@ -114,7 +114,7 @@ module _ {Row Note : Type 0} (M : Meaning Row Note) (L : Laws M) where
         subst P (sym e) (ap (set xs (place J k)) (sym (m (place J k) (h k (omega arith)))) ∙ set-get_or xs (place J k) M.start)
 
     -- no table that meets the rules lies below
-    pub below : (ys : List Row) (k : ℕ) → length ys ≡ size J → All M.own_row ys → MeetsTheRules M J ys → ((i : ℕ) → i < size J → place J i < size J) → Under M (after_rounds M J k) ys
+    pub below : (ys : List Row) (k : ℕ) → length ys ≡ size J → AllByRecursion M.own_row ys → MeetsTheRules M J ys → ((i : ℕ) → i < size J → place J i < size J) → Under M (after_rounds M J k) ys
     unfolding after_rounds
     below ys zero n o m h = let P : ℕ → Type 0 = λ j. Under M (replicate j M.start) ys in subst P n (all_start_under ys o)
     below ys (suc k) n o m h =

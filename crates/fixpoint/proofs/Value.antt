@@ -1,6 +1,6 @@
 -- A settled table is the settled table. Assumes nothing.
 use Rattle.std.proofs.Common.{◌≡◌, ℕ, zero, suc, ◌<◌, List, [], ◌∷◌, length, get_or, sym, refl, ◌∙◌, arith}
-use Rattle.std.specs.List.{AllByRecursion as All}
+use Rattle.std.specs.List.{AllByRecursion}
 use Rattle.fixpoint.specs.Kinds.{Meaning, Laws}
 use Rattle.fixpoint.specs.Rounds.{Job}
 use Rattle.fixpoint.specs.Settled.{Settled, settled_table}
@@ -9,7 +9,7 @@ use Rattle.fixpoint.proofs.Still.{still}
 
 module _ {Row Note : Type 0} (M : Meaning Row Note) (L : Laws M) where
   -- own rows at or before each other, point for point
-  tables_equal : (xs ys : List Row) → length xs ≡ length ys → All M.own_row xs → All M.own_row ys
+  tables_equal : (xs ys : List Row) → length xs ≡ length ys → AllByRecursion M.own_row xs → AllByRecursion M.own_row ys
       → ((p : ℕ) → p < length xs → M.at_or_before (get_or xs p M.start) (get_or ys p M.start))
       → ((p : ℕ) → p < length xs → M.at_or_before (get_or ys p M.start) (get_or xs p M.start)) → xs ≡ ys
   tables_equal [] [] n h k u v = refl
@@ -20,7 +20,7 @@ module _ {Row Note : Type 0} (M : Meaning Row Note) (L : Laws M) where
       let rest : xs ≡ ys = tables_equal xs ys (omega arith) h.1 k.1 (λ p l. u (suc p) (omega arith)) (λ p l. v (suc p) (omega arith)) in
       cc
 
-  module _ (J : Job Note) (own_notes : All M.own_note J.notes) where
+  module _ (J : Job Note) (own_notes : AllByRecursion M.own_note J.notes) where
     -- one table is settled, so that every other that is settled, after as many rounds or not, is the same
     settled_same : (k j : ℕ) (xs ys : List Row) → Settled M J k xs → Settled M J j ys → xs ≡ ys
     settled_same k j xs ys s t =

@@ -46,7 +46,7 @@ module _ {Row Note : Type 0} (M : Meaning Row Note) (J : Job Note) where
   abbrev pub all_start : List Row
   all_start = replicate (size J) M.start
 
-  -- the table after r rounds from the all_start table
+  -- the table after r rounds from the all-start table
   unfoldable pub after_rounds : ℕ → List Row
   after_rounds zero = all_start
   after_rounds (suc r) = round (after_rounds r)

@@ -1,6 +1,6 @@
 -- The resilient number of a point, counted over indices, is that counted over blocks. Assumes nothing.
 use Rattle.std.proofs.Common.{◌≡◌, ℕ, zero, suc, ◌+◌, ◌<◌, min, Bool, true, false, cond, ◌&&◌, eqb, ltb, List, [], ◌∷◌, length, get_or, Some, None, filter, Option, sym, refl, ap, ◌∙◌, arith}
-use Rattle.std.specs.List.{slice_get, AllByRecursion as All}
+use Rattle.std.specs.List.{slice_get, AllByRecursion}
 use Rattle.std.proofs.lemmas.Option.{slice_get-get_or}
 use Rattle.recency.specs.Blocks.{has, set_of}
 use Rattle.task.specs.Blocks.{access_at, access_index}
@@ -42,7 +42,7 @@ count_kept f (x ∷ xs) = count_first (λ i. f (get_or (x ∷ xs) i 0)) (length 
   go true e = omega arith
   go false e = omega arith
 
-all_or : {X : Type 0} (P : X → Type 0) (xs : List X) (i : ℕ) (d : X) → All P xs → P d → P (get_or xs i d)
+all_or : {X : Type 0} (P : X → Type 0) (xs : List X) (i : ℕ) (d : X) → AllByRecursion P xs → P d → P (get_or xs i d)
 all_or P [] i d h k = k
 all_or P (x ∷ xs) zero d h k = h.0
 all_or P (x ∷ xs) (suc i) d h k = all_or P xs i d h.1 k

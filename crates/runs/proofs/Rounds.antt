@@ -1,6 +1,6 @@
 -- The rounds that a table takes, from a weight of the tables that they give. Assumes nothing.
 use Rattle.std.proofs.Common.{◌≡◌, ℕ, zero, suc, ◌+◌, ◌≤◌, false, eqb, length, Some, None, Option, sym, ap, ◌∙◌, subst, arith}
-use Rattle.std.specs.List.{AllByRecursion as All}
+use Rattle.std.specs.List.{AllByRecursion}
 use Rattle.std.proofs.lemmas.Bool.{eqb-false}
 use Rattle.task.specs.Contents.{TaskContents}
 use Rattle.fixpoint.specs.Kinds.{Meaning, Laws}
@@ -37,7 +37,7 @@ module _ {Row Note : Type 0} (M : Meaning Row Note) (J : Job Note) (weight : Row
       let e : r + 1 ≡ suc r = omega arith in
       subst (Moving M J) e (moving_more M J r (moving r c.0) (λ same. eqb-false _ _ c.1 (ap (total weight) same)))
 
-  takes : (r : ℕ) → Laws M → All M.own_note J.notes → Counted r → Takes M J (suc r)
+  takes : (r : ℕ) → Laws M → AllByRecursion M.own_note J.notes → Counted r → Takes M J (suc r)
   takes r L own_notes c =
       let few = few_rounds M L J own_notes r (moving r c.0) in
       settled M L J own_notes r (settled_table M J) (moving r c.0) (still M J r (omega arith) c.1 ∙ sym c.1) c.1

@@ -1,7 +1,7 @@
 -- The notes of a task are own notes of its kinds. Assumes nothing.
 use Rattle.std.proofs.Common.{◌≡◌, ℕ, zero, suc, ◌+◌, ◌<◌, ◌≤◌, Bool, true, false, cond, eqb, List, [], ◌∷◌, map, length, get_or, Some, None, Option, refl, ap, arith}
 use lib.ListN.{length-map}
-use Rattle.std.specs.List.{AllByRecursion as All}
+use Rattle.std.specs.List.{AllByRecursion}
 use Rattle.task.specs.Blocks.{access_at, access_index}
 use Rattle.task.specs.Contents.{PointContents, TaskContents}
 use Rattle.task.specs.Lists.{first_from}
@@ -27,11 +27,11 @@ pub own_index : (bs : List ℕ) (access : Option ℕ) → OwnAccess (length bs) 
 own_index bs None = tt
 own_index bs (Some b) = first_below 0 (length bs) (eqb b) bs (omega arith)
 
-own_indices : (bs : List ℕ) (ps : List PointContents) → All (OwnAccess (length bs)) (map (λ p. access_index bs p.access) ps)
+own_indices : (bs : List ℕ) (ps : List PointContents) → AllByRecursion (OwnAccess (length bs)) (map (λ p. access_index bs p.access) ps)
 own_indices bs [] = tt
 own_indices bs (p ∷ ps) = (own_index bs p.access, own_indices bs ps)
 
-pub own_access_notes : (t : TaskContents) → All (OwnAccess (length (blocks t))) (access_notes t)
+pub own_access_notes : (t : TaskContents) → AllByRecursion (OwnAccess (length (blocks t))) (access_notes t)
 own_access_notes t = own_indices (blocks t) t.points
 
 module _ (n : ℕ) (few : n ≤ 64) (sets : List ℕ) where
@@ -49,7 +49,7 @@ module _ (n : ℕ) (few : n ≤ 64) (sets : List ℕ) where
   own_use row None h k = tt
   own_use row (Some b) h k = (k, own_cell 0 b (conflict_list row) h)
 
-  pub own_use_notes : (rows : List Conflicts) (notes : List (Option ℕ)) → All (conflicts_meaning n sets).own_row rows → All (OwnAccess n) notes → All (OwnUse n) (use_notes rows notes)
+  pub own_use_notes : (rows : List Conflicts) (notes : List (Option ℕ)) → AllByRecursion (conflicts_meaning n sets).own_row rows → AllByRecursion (OwnAccess n) notes → AllByRecursion (OwnUse n) (use_notes rows notes)
   own_use_notes [] notes h k = tt
   own_use_notes (row ∷ rows) [] h k = tt
   own_use_notes (row ∷ rows) (note ∷ notes) h k = (own_use row note h.0.1 k.0, own_use_notes rows notes h.1 k.1)

@@ -1,6 +1,6 @@
 -- From what the solver says of each table to the settled tables of the task. Assumes nothing.
 use Rattle.std.proofs.Common.{◌≡◌, ℕ, ◌≤◌, List, length, take, Option, sym, ap, ◌∙◌, subst, arith, length-take}
-use Rattle.std.specs.List.{AllByRecursion as All}
+use Rattle.std.specs.List.{AllByRecursion}
 use Rattle.task.specs.Contents.{TaskContents}
 use Rattle.fixpoint.specs.Kinds.{Meaning}
 use Rattle.fixpoint.specs.Rounds.{job_of}
@@ -26,10 +26,10 @@ use Rattle.tables.specs.Answers.{AllSettled, Settles}
 use Rattle.tables.specs.declared.Rounds.{Rounds}
 use Rattle.tables.proofs.OwnNotes.{own_access_notes, own_use_notes}
 
-settles : {Row Note : Type 0} (M : Meaning Row Note) (direction : Direction) (t : TaskContents) (notes all : List Note) (before after : List Row) (r : ℕ) → take (length t.points) notes ≡ all → All M.own_note all → Solved M direction t notes before after r → Settles M (job_of direction t.points all) before after r
+settles : {Row Note : Type 0} (M : Meaning Row Note) (direction : Direction) (t : TaskContents) (notes all : List Note) (before after : List Row) (r : ℕ) → take (length t.points) notes ≡ all → AllByRecursion M.own_note all → Solved M direction t notes before after r → Settles M (job_of direction t.points all) before after r
 settles M direction t notes all before after r e own s = record {
   room = s.room;
-  settled = subst (λ ns. Settled M (job_of direction t.points ns) r (take (length t.points) after)) e (s.settled (subst (All M.own_note) (sym e) own));
+  settled = subst (λ ns. Settled M (job_of direction t.points ns) r (take (length t.points) after)) e (s.settled (subst (AllByRecursion M.own_note) (sym e) own));
   rest = s.rest;
 }
 
@@ -53,10 +53,10 @@ module _ (t : TaskContents) (before after : List Conflicts) (r : ℕ) (conflicts
   settled_conflicts_value = settled_value (conflict_kind t) (conflicts_laws (length (blocks t)) (filled_up 64 (block_sets t))) (age_job t) (own_access_notes t) r (take (length t.points) after) conflicts.settled
 
 module _ (t : TaskContents) (few : length (blocks t) ≤ 64) (before after : List Conflicts) (r : ℕ) (conflicts : Settles (conflict_kind t) (age_job t) before after r) where
-  own_uses : All (OwnUse (length (blocks t))) (use_notes (settled_conflicts t) (access_notes t))
+  own_uses : AllByRecursion (OwnUse (length (blocks t))) (use_notes (settled_conflicts t) (access_notes t))
   own_uses =
       own_use_notes (length (blocks t)) few (filled_up 64 (block_sets t)) (settled_conflicts t) (access_notes t)
-      (subst (All (conflict_kind t).own_row) (settled_conflicts_value t before after r conflicts) conflicts.settled.own.own) (own_access_notes t)
+      (subst (AllByRecursion (conflict_kind t).own_row) (settled_conflicts_value t before after r conflicts) conflicts.settled.own.own) (own_access_notes t)
 
 module _ (t : TaskContents) (few : length (blocks t) ≤ 64) (uses : List (Option NextUse)) (before after : List Conflicts) (r : ℕ) (conflicts : Settles (conflict_kind t) (age_job t) before after r) where
   pub widest_settle : (notes : List (Option ℕ)) → take (length t.points) notes ≡ access_notes t → take (length t.points) uses ≡ use_notes (take (length t.points) after) (take (length t.points) notes) → (direction : Direction) (old new : List NextUses) (k n : ℕ) → n ≡ length (blocks t) → Solved (next_uses_meaning n) direction t uses old new k → Settles (next_use_kind t) (job_of direction t.points (use_notes (settled_conflicts t) (access_notes t))) old new k

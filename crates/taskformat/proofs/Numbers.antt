@@ -1,13 +1,13 @@
 -- A number of 32 bits and its four bytes give each other back.
 use Rattle.std.proofs.Common.{◌≡◌, ℕ, ◌+◌, ◌*◌, ◌/◌, ◌%◌, ◌^◌, ◌<◌, ◌≤◌, List, [], ◌∷◌, ◌++◌, length, drop, append-nil, arith}
-use Rattle.std.specs.List.{AllByRecursion as All}
+use Rattle.std.specs.List.{AllByRecursion}
 use Rattle.std.proofs.lemmas.List.{drop_all}
 use Rattle.taskformat.specs.Writing.{four_bytes}
 use Rattle.taskformat.specs.Reading.{number_at}
 
 -- numbers of one byte each
 abbrev pub Bytes : List ℕ → Type 0
-Bytes bytes = All (λ b. b < 256) bytes
+Bytes bytes = AllByRecursion (λ b. b < 256) bytes
 
 -- the number that its bytes are read as
 pub number_back : (n : ℕ) → n < 2 ^ 32 → number_at (four_bytes n) 0 ≡ n

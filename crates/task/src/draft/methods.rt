@@ -108,8 +108,8 @@ fn is_legal(cache: CacheParameters) -> bool
 
 // Adds the block of an access where it is new. False where there is no room for it.
 fn note_access(blocks: &mut Vec<u32>, access: Option<u32>) -> bool
-    requires blocks_len_bound { vec_len blocks.old ≤ 64 }
-    requires bound { 64 ≤ vec_capacity blocks.old }
+    requires few { vec_len blocks.old ≤ 64 }
+    requires room { 64 ≤ vec_capacity blocks.old }
     ensures test { result ≡ nat_le (length (noted blocks.old.items access)) 64 }
     ensures after { blocks.new.items ≡ (if result then noted blocks.old.items access else blocks.old.items) }
     ensures capacity { vec_capacity blocks.new ≡ vec_capacity blocks.old }

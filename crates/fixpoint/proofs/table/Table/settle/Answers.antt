@@ -1,7 +1,7 @@
 use Rattle.std.proofs.Common.{◌≡◌, ℕ, ◌-◌, List, ◌++◌, length, take, drop, sym, refl, ap, ◌∙◌, subst, inl, inr, ⊎_elim, arith}
 use lib.ListN.{length-map}
 use borrow.Rule.Slice.PartMut.{post_of}
-use Rattle.std.specs.List.{AllByRecursion as All}
+use Rattle.std.specs.List.{AllByRecursion}
 use Rattle.std.proofs.lemmas.List.{length-take-le, take_at}
 use Rattle.std.proofs.lemmas.Slice.{drop-append-drop}
 use Rattle.task.specs.Contents.{PointContents}
@@ -59,7 +59,7 @@ returns g c =
         value = first ∙ value;
         rest = ap (λ (m : ℕ). drop k (after ++ post_of 0 m before)) same ∙ drop-append-drop k before after k (omega arith) len;
         settled = λ own.
-            let own_notes = subst (λ (m : ℕ). All M.own_note (take m notes)) (sym same) own in
+            let own_notes = subst (λ (m : ℕ). AllByRecursion M.own_note (take m notes)) (sym same) own in
             subst (Settled M (job c.args.direction t notes) c.run.result) (sym first)
             (subst (λ (J : Job g.row.K-Note.Denot). Settled M J c.run.result after) jobs (c.run.ensures.settled own_notes));
       };

@@ -25,7 +25,7 @@ note_access-requires c =
     let d = c.args.self.now in
     let k = kept (draft_contents d) d.legal in
     let n = d.blocks.ok.0 in
-    record { blocks_len_bound = omega (arith, ap length d.named, k.blocks_few); bound = d.blocks_room }
+    record { few = omega (arith, ap length d.named, k.blocks_few); room = d.blocks_room }
 
 pub returns-then-len-eq-MAX_POINTS : goal.returns-then-len-eq-MAX_POINTS
 returns-then-len-eq-MAX_POINTS c =
