@@ -54,7 +54,7 @@ BUGS = [
     ("bench", "src/bar.rt", "if sets != parameters.sets {\n        return Some(BenchFault::OtherSets);\n    }\n", "", "other sets are let through"),
     ("bench", "src/bar.rt", "if room < task.points().len() {", "if room <= task.points().len() {", "tables of just the points refused"),
     ("bench", "src/points.rt", "*s as usize == to", "*s as usize >= to", "a step past the successors"),
-    ("bench", "src/numbers.rt", "resilient[p] = numbers.resilient;", "resilient[p] = numbers.combined;", "combined numbers charged"),
+    ("bench", "src/keeping.rt", "resilient[p] = numbers.resilient;", "resilient[p] = numbers.combined;", "combined numbers charged"),
     ("bench", "src/methods.rt", "let life = cache.life();", "let life = task.parameters().ways;", "the life of the cache taken for granted"),
     ("replaying", "src/play.rt", "let counts = bench.read();\n", "let counts = bench.read();\n        let _ = bench.interrupt();\n", "an interruption after each call"),
     # text

@@ -6,8 +6,8 @@ pub mod answer;
 mod bar;
 mod calls;
 pub mod fault;
+mod keeping;
 mod methods;
-mod numbers;
 mod points;
 
 ghost use Rattle.std.specs.Prelude.{◌≡◌, ◌*◌, ◌<◌, ◌≤◌, length};

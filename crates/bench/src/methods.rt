@@ -9,7 +9,7 @@ ghost use Rattle.bench.specs.Benches.{Built, IsExplained, ledger_in, setting_of}
 ghost use Rattle.bench.specs.Keeping.{setting_with};
 
 use crate::Bench;
-use crate::numbers::kept_numbers;
+use crate::keeping::kept_numbers;
 use cache::Cache;
 use cache::lru::Lru;
 use ledger::{Counts, State};

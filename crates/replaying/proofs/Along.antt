@@ -1,11 +1,10 @@
 -- How far a run has come. Assumes nothing.
-use Rattle.std.proofs.Common.{◌≡◌, ℕ, Bool, List, [], ◌∷◌, ◌++◌, sym, refl, ap, ◌∙◌, subst}
+use Rattle.std.proofs.Common.{◌≡◌, ℕ, Bool, List, [], ◌∷◌, ◌++◌, sym, refl, ◌∙◌, subst}
 use Rattle.std.specs.List.{AllByRecursion as All}
 use Rattle.recency.specs.Rows.{row_run}
 use Rattle.ledger.specs.Ledger.{Setting, Ledger, accessed, new_ledger}
 use Rattle.ledger.specs.Histories.{LoadsWithin}
 use Rattle.ledger.specs.declared.Call.{Call}
-use Rattle.ledger.specs.declared.Counts.{Counts}
 use Rattle.bench.specs.Benches.{Called, Explained}
 use Rattle.replaying.specs.Replays.{CountsWithin, Plays, Replayed, accesses_of}
 use Rattle.replaying.specs.declared.Played.{Played}

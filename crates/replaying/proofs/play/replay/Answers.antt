@@ -1,8 +1,8 @@
-use Rattle.std.proofs.Common.{◌≡◌, List, [], ◌∷◌, ◌++◌, length, get_or, take, vec_items, sym, refl, ap, ◌∙◌, subst, arith}
+use Rattle.std.proofs.Common.{◌≡◌, List, [], ◌∷◌, ◌++◌, get_or, take, vec_items, sym, subst}
 use Rattle.std.proofs.lemmas.List.{take_all, take_more}
 use Rattle.task.specs.Tasks.{contents}
 use Rattle.tables.specs.Rows.{rows_of, shortest}
-use Rattle.ledger.specs.Ledger.{Setting, new_ledger}
+use Rattle.ledger.specs.Ledger.{Setting}
 use Rattle.ledger.specs.declared.Call.{Call}
 use Rattle.ledger.specs.declared.Call.TheVariants.{Step}
 use Rattle.bench.specs.Benches.{Built, ledger_in, setting_of}

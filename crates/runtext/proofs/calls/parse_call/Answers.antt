@@ -1,5 +1,7 @@
-use Rattle.std.proofs.Common.{◌≡◌, false, sym, ap, ◌∙◌, arith}
+use Rattle.std.proofs.Common.{◌≡◌, false, codes, sym, ap, ◌∙◌, arith}
 use borrow.Author.Tests.{both_ways}
+use Rattle.std.proofs.lemmas.Bool.Decides.{Decides-eqb}
+use Rattle.std.proofs.lemmas.Slice.Eq.{slice_eq-Decides}
 use Rattle.std.proofs.lemmas.Str.Pattern.{starts_char}
 use Rattle.runtext.specs.Calls.{all_blank, called}
 use Rattle.runtext.proofs.CallSteps.{line_other}
@@ -12,4 +14,4 @@ returns-in_err-call c =
     let blank : all_blank line ≡ false = ap all_blank (sym c.as_bytes.ensures.value) ∙ sym c.is_blank.ensures ∙ c.if-is_blank.false in
     c.from_residual.ensures
     ∙ ap called c.in_err-call.ensures
-    ∙ sym (line_other line (λ e. both_ways _ c.if-starts_with.false (starts.1 e)) blank (λ e. both_ways _ c.if-eq.false (c.eq.ensures.1 e)))
+    ∙ sym (line_other line (λ e. both_ways _ c.if-starts_with.false (starts.1 e)) blank (λ e. both_ways _ c.if-eq.false ((slice_eq-Decides Decides-eqb line (codes "read") _ c.eq.ensures).1 e)))

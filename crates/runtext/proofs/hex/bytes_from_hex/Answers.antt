@@ -1,7 +1,7 @@
 use Rattle.std.proofs.Common.{◌≡◌, ℕ, ◌+◌, ◌<◌, List, get_or, vec_items, Option, sym, ap, ◌∙◌, arith}
 use Rattle.runtext.proofs.HexSteps.{Reads, blank_more, digit_small, first_more, half_ends, held_small, other_ends, second_more, whole_ends}
 use Rattle.runtext.proofs.hex.bytes_from_hex.Goals as goal
-use Rattle.runtext.proofs.hex.bytes_from_hex.Goals.{in-None, in-Some-high+in_ok-push}
+use Rattle.runtext.proofs.hex.bytes_from_hex.Goals.{in-None, in-Some-high+in_ok-push-in-Some-high}
 
 reads_as : (text bs bs' : List ℕ) (held held' : Option ℕ) (i : ℕ) → bs' ≡ bs → held' ≡ held → Reads text bs held i → Reads text bs' held' i
 reads_as text bs bs' held held' i b h so_far = rw (b, h) so_far
@@ -26,8 +26,8 @@ loop-c-preserved c =
       | in-None w ↦
           reads_as text bytes _ _ _ (i + 1) (ap vec_items w.bytes-is) w.high-is
           (first_more text bytes i _ c.loop-c.invariant c.in-Some.digit c.loop-c-test.true c.if-c-eq32.false is w.in-None.is)
-      | in-Some-high+in_ok-push w ↦
-          reads_as text _ _ _ _ (i + 1) (ap vec_items w.bytes-is ∙ w.in_ok-push.ensures.items) w.high-is
+      | in-Some-high+in_ok-push-in-Some-high w ↦
+          reads_as text _ _ _ _ (i + 1) (ap vec_items w.bytes-is ∙ w.in_ok-push-in-Some-high.ensures.items) w.high-is
           (second_more text bytes i _ c.loop-c.invariant w.in-Some-high.first c.in-Some.digit c.loop-c-test.true c.if-c-eq32.false is w.in-Some-high.is)
     ]
 

@@ -4,7 +4,7 @@ use Rattle.tables.specs.Rows.{rows_of}
 use Rattle.bench.specs.Benches.{BuiltWhere}
 use Rattle.bench.specs.Keeping.{setting_with}
 use Rattle.bench.proofs.Barring.{open_room}
-use Rattle.bench.proofs.numbers.kept_numbers.Goals as goal
+use Rattle.bench.proofs.keeping.kept_numbers.Goals as goal
 
 pub settled_numbers-requires : goal.settled_numbers-requires
 settled_numbers-requires c =

@@ -3,7 +3,7 @@ use lib.ListN.{length-map}
 use Rattle.task.specs.Meaning.{point_contents}
 use Rattle.task.specs.Tasks.{contents}
 use Rattle.task.proofs.Drafting.{kept}
-use Rattle.bench.proofs.numbers.resilient_numbers.Goals as goal
+use Rattle.bench.proofs.keeping.resilient_numbers.Goals as goal
 
 pub unreachable-requires : goal.unreachable-requires
 unreachable-requires c =

@@ -1,7 +1,7 @@
 use Rattle.std.proofs.Common.{◌≡◌, ℕ, ◌<◌, length, get_or}
 use Rattle.task.specs.Tasks.{contents}
 use Rattle.tables.specs.Rows.{numbers_at, rows_of}
-use Rattle.bench.proofs.numbers.resilient_numbers.Given as goal
+use Rattle.bench.proofs.keeping.resilient_numbers.Given as goal
 
 -- the numbers of the points so far
 abbrev pub invariant-loop-p : goal.invariant-loop-p

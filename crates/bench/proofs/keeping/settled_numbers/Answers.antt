@@ -4,7 +4,7 @@ use Rattle.task.proofs.Drafting.{kept}
 use Rattle.tables.specs.Rows.{rows_of, settled_rows}
 use Rattle.tables.proofs.Settles.{ages_value, conflicts_value, reuses_value, widest_value}
 use Rattle.analysis.proofs.Sheets.{same_numbers, settled_room}
-use Rattle.bench.proofs.numbers.settled_numbers.Goals as goal
+use Rattle.bench.proofs.keeping.settled_numbers.Goals as goal
 
 pub unreachable-requires : goal.unreachable-requires
 unreachable-requires c = omega (arith, c.requires, c.in_default.ensures.answer.0)
