@@ -1,4 +1,5 @@
 pub mod Lists
+pub mod Made
 pub mod Rows
 pub mod RowLaws
 pub mod Matching

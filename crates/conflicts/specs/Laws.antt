@@ -1,6 +1,10 @@
 -- The laws of conflict sets. Assumes nothing.
 use Rattle.std.specs.Prelude.{◌≡◌, ℕ, ◌^◌, ◌<◌, ◌≤◌, Bool, true, false, cond, ◌⊎◌, List, Some, None, Option, ◌==◌, ◌≢◌, bit_or, nat_lt, slice_index, refl}
-use Rattle.std.proofs.Common.{sym, ap, ◌∙◌, inl, inr, arith}
+use lib.Pointwise.{pointwise}
+use Rattle.std.specs.Option.{option_eq}
+use Rattle.std.proofs.lemmas.Bool.Decides.{Decides-eqb}
+use Rattle.cells.proofs.Matching.{matches_by}
+use Rattle.std.proofs.Common.{Decides, eqb, sym, ap, ◌∙◌, inl, inr, arith}
 use Rattle.std.proofs.lemmas.Bool.{cond_both, eqb-true, eqb-false}
 use Rattle.fixpoint.specs.Kinds.{Laws}
 use Rattle.cells.specs.Cells.{CellLaws, OwnRow, EachAtOrBefore, each}
@@ -154,3 +158,15 @@ conflicts_laws n sets = rows_laws (conflict_cell n sets) (conflict_laws n sets) 
 
 pub conflicts_tell : (n : ℕ) (sets : List ℕ) → RankTells (conflicts_meaning n sets)
 conflicts_tell n sets = rows_tell (conflict_cell n sets) (conflict_laws n sets) 64 conflict_list conflicts_row (OwnAccess n) (conflicts_after n sets) (λ r. refl)
+
+sets_match : (s t : BlockSet) → Decides (eqb s.mask t.mask) (s ≡ t)
+sets_match s t =
+    let of_mask : ℕ → BlockSet = λ m. record { mask = m } in
+    let d = Decides-eqb s.mask t.mask in
+    (λ e. ap of_mask (d.0 e), λ e. d.1 (ap (λ (u : BlockSet). u.mask) e))
+
+-- rows are equal where their conflict sets are
+pub conflicts_equality : (a b : Conflicts) → Decides (pointwise (option_eq (λ (s t : BlockSet). eqb s.mask t.mask)) a.conflicts b.conflicts) (a ≡ b)
+conflicts_equality a b =
+    let d = matches_by (λ s t. eqb s.mask t.mask) sets_match a.conflicts b.conflicts _ refl in
+    (λ t. ap conflicts_row (d.0 t), λ e. d.1 (ap conflict_list e))

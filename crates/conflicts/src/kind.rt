@@ -1,11 +1,12 @@
-ghost use Rattle.std.specs.Prelude.{◌≡◌, ◌<◌};
+ghost use Rattle.std.specs.Prelude.{◌≡◌, ◌<◌, None, slice_index_or};
 ghost use Rattle.cells.specs.Cells.{both, each};
 ghost use Rattle.conflicts.specs.Conflicts.{conflict_after, conflicts_meaning, extended, union_of};
-ghost use Rattle.conflicts.specs.Laws.{conflicts_laws};
+ghost use Rattle.conflicts.specs.Laws.{conflicts_equality, conflicts_laws};
 
 use crate::{ConflictKind, Conflicts};
 use blocksets::BlockSet;
 use fixpoint::RowKind;
+use std::array;
 
 impl RowKind for ConflictKind {
     type Row = Conflicts;
@@ -17,6 +18,8 @@ impl RowKind for ConflictKind {
 
     ghost lawful = { λ k. conflicts_laws k.blocks k.sets };
 
+    ghost equality = { conflicts_equality };
+
     fn start(&self) -> Conflicts {
         Conflicts {
             conflicts: [None; 64],
@@ -25,42 +28,37 @@ impl RowKind for ConflictKind {
 
     fn merge(&self, a: &Conflicts, b: &Conflicts) -> Conflicts {
         Conflicts {
-            conflicts: merge_each(&a.conflicts, &b.conflicts),
+            conflicts: array::from_fn(|i| unite(a.conflicts[i], b.conflicts[i])),
         }
     }
 
     fn advance(&self, row: &Conflicts, note: &Option<usize>) -> Conflicts {
         match *note {
-            None => *row,
-            Some(block) => {
-                if block < self.blocks as usize {
-                    Conflicts {
-                        conflicts: access(&self.sets, &row.conflicts, block),
-                    }
-                } else {
-                    *row
-                }
-            }
+            Some(block) if block < self.blocks as usize => Conflicts {
+                conflicts: array::from_fn(|i| self.after_access(row, block, i)),
+            },
+            _ => *row,
         }
     }
 
     fn height(&self) -> u32 {
         self.blocks as u32 * self.blocks as u32
     }
-
-    fn same(&self, a: &Conflicts, b: &Conflicts) -> bool {
-        a.conflicts == b.conflicts
-    }
 }
 
-fn merge_each(a: &[Option<BlockSet>; 64], b: &[Option<BlockSet>; 64]) -> [Option<BlockSet>; 64]
-    ensures { result ≡ both union_of a.now b.now }
-{
-    let mut out = [None; 64];
-    for i in 0..64 {
-        out[i] = unite(a[i], b[i]);
+impl ConflictKind {
+    // The conflict set of block i after an access of block b.
+    fn after_access(&self, row: &Conflicts, b: usize, i: usize) -> Option<BlockSet>
+        requires accessed { b < 64 }
+        requires inside { i < 64 }
+        ensures { result ≡ conflict_after self.now.sets b i (slice_index_or row.now.conflicts i None) }
+    {
+        if i == b {
+            return Some(BlockSet::empty());
+        }
+        let near = self.sets[i] == self.sets[b];
+        extend(near, b, row.conflicts[i])
     }
-    out
 }
 
 // The union, where none adds nothing.
@@ -72,23 +70,6 @@ fn unite(a: Option<BlockSet>, b: Option<BlockSet>) -> Option<BlockSet>
         (Some(_), None) => a,
         (Some(s), Some(t)) => Some(s.union(t)),
     }
-}
-
-// The conflict sets after an access of block b.
-fn access(sets: &[u8; 64], conflicts: &[Option<BlockSet>; 64], b: usize) -> [Option<BlockSet>; 64]
-    requires { b < 64 }
-    ensures { result ≡ each (conflict_after sets.now b) 0 conflicts.now }
-{
-    let mut out = [None; 64];
-    let home = sets[b];
-    for i in 0..64 {
-        out[i] = if i == b {
-            Some(BlockSet::empty())
-        } else {
-            extend(sets[i] == home, b, conflicts[i])
-        };
-    }
-    out
 }
 
 // The conflict set of a block other than the accessed one, b.

@@ -6,6 +6,7 @@ ghost use Rattle.conflicts.specs.Conflicts.{conflict_list};
 
 use crate::{ConflictKind, Conflicts};
 use blocksets::BlockSet;
+use rowkinds::block_sets;
 use task::task::Task;
 
 impl Conflicts {
@@ -23,16 +24,9 @@ impl ConflictKind {
         ensures blocks { result.blocks ≡ length (distinct_blocks (contents task.now).points) }
         ensures sets { result.sets ≡ filled_up 64 (block_sets (contents task.now)) }
     {
-        // Its contract says that the task keeps the limits, so that there are at most 64 blocks.
-        let _ = task.parameters();
-        let blocks = task.blocks();
-        let mut sets = [0; 64];
-        for (i, b) in blocks.iter().enumerate() {
-            sets[i] = task.set_of(*b) as u8;
-        }
         ConflictKind {
-            blocks: blocks.len() as u8,
-            sets,
+            blocks: task.blocks().len() as u8,
+            sets: block_sets(task),
         }
     }
 }

@@ -3,7 +3,6 @@
 
 pub mod direction;
 pub mod fault;
-mod graph;
 mod solve;
 pub mod table;
 #[cfg(test)]
@@ -14,7 +13,7 @@ ghost use Rattle.fixpoint.specs.Kinds.{Laws, Meaning};
 
 // A kind of row, by what it means and the laws that it shows. Its methods take any row and note.
 pub trait RowKind {
-    type Row: Copy;
+    type Row: Copy + Eq;
 
     type Note;
 
@@ -32,8 +31,8 @@ pub trait RowKind {
     fn height(&self) -> u32
         ensures { result ≡ (meaning self.now).height };
 
-    fn same(&self, a: &Self::Row, b: &Self::Row) -> bool
-        ensures { Decides result (a.now ≡ b.now) };
-
     ghost lawful: { (k : Self) → Laws (meaning k) };
+
+    // rows that `==` calls equal are the same
+    ghost equality: { (a b : Self.Row) → Decides (Self.Row.PartialEq.eq a b) (a ≡ b) };
 }

@@ -2,94 +2,96 @@
 ghost use Rattle.std.specs.Prelude.{◌≡◌, ◌<◌, ◌≤◌, true, false, length, replicate, ◌≢◌};
 ghost use Rattle.std.specs.List.{AllByRecursion};
 ghost use Rattle.task.specs.Meaning.{all_contents};
+ghost use Rattle.fixpoint.specs.Graph.{is_input};
 ghost use Rattle.fixpoint.specs.Rounds.{after_rounds, job_of, merged, round};
 ghost use Rattle.fixpoint.specs.Settled.{Settled};
 
 use crate::RowKind;
 use crate::direction::Direction;
-use crate::graph::{is_input, visited_at};
 use task::point::Point;
 
-// Goes round from the start rows until a round changes nothing, and says how many rounds that took. With notes that are
-// not the kind's own the rounds might change the table for ever, so that they are counted off.
-pub(crate) fn run<K: RowKind>(
-    kind: &K,
-    direction: Direction,
-    points: &[Point],
-    notes: &[K::Note],
-    rows: &mut [K::Row],
-) -> u64
-    requires few { length points.now ≤ 128 }
-    requires noted { length notes.now ≡ length points.now }
-    requires filled { length rows.old ≡ length points.now }
-    ensures value { rows.new ≡ after_rounds (K.meaning kind.now) (job_of direction (all_contents points.now) notes.now) result }
-    ensures settled { AllByRecursion (K.meaning kind.now).own_note notes.now → Settled (K.meaning kind.now) (job_of direction (all_contents points.now) notes.now) result rows.new }
-{
-    begin(kind, rows);
-    let most = points.len() as u64 * kind.height() as u64 + 1;
-    for round in 1..=most {
-        if !go_round(kind, direction, points, notes, rows) {
-            return round;
+// What is to be settled: rows of a kind over points, with a note for each of them.
+#[derive(Drop)]
+pub(crate) struct Solver<'a, K: RowKind> {
+    pub(crate) kind: &'a K,
+    pub(crate) direction: Direction,
+    pub(crate) points: &'a [Point],
+    pub(crate) notes: &'a [K::Note],
+    ghost noted: { length notes.now ≡ length points.now },
+}
+
+impl<'a, K: RowKind> Solver<'a, K> {
+    // Goes round from the start rows until a round changes nothing, and says how many rounds that took. With notes that are
+    // not the kind's own the rounds might change the table for ever, so that they are counted off.
+    pub(crate) fn run(&self, rows: &mut [K::Row]) -> u64
+        requires few { length self.now.points.now ≤ 128 }
+        requires filled { length rows.old ≡ length self.now.points.now }
+        ensures value { rows.new ≡ after_rounds (K.meaning self.now.kind.now) (job_of self.now.direction (all_contents self.now.points.now) self.now.notes.now) result }
+        ensures settled { AllByRecursion (K.meaning self.now.kind.now).own_note self.now.notes.now → Settled (K.meaning self.now.kind.now) (job_of self.now.direction (all_contents self.now.points.now) self.now.notes.now) result rows.new }
+    {
+        self.begin(rows);
+        let most = self.points.len() as u64 * self.kind.height() as u64 + 1;
+        for round in 1..=most {
+            if !self.go_round(rows) {
+                return round;
+            }
+        }
+        most
+    }
+
+    // Gives every point the start row.
+    fn begin(&self, rows: &mut [K::Row])
+        ensures { rows.new ≡ replicate (length rows.old) (K.meaning self.now.kind.now).start }
+    {
+        let start = self.kind.start();
+        for row in rows {
+            *row = start;
         }
     }
-    most
-}
 
-// Gives every point the start row.
-fn begin<K: RowKind>(kind: &K, rows: &mut [K::Row])
-    ensures { rows.new ≡ replicate (length rows.old) (K.meaning kind.now).start }
-{
-    let start = kind.start();
-    for p in 0..rows.len() {
-        rows[p] = start;
+    // Visits each point once, and says whether a row has changed.
+    fn go_round(&self, rows: &mut [K::Row]) -> bool
+        requires { length rows.old ≡ length self.now.points.now }
+        ensures table { rows.new ≡ round (K.meaning self.now.kind.now) (job_of self.now.direction (all_contents self.now.points.now) self.now.notes.now) rows.old }
+        ensures idle { result ≡ false → rows.new ≡ rows.old }
+        ensures moved { result ≡ true → rows.new ≢ rows.old }
+    {
+        let n = self.points.len();
+        let mut changed = false;
+        // the order depends on the direction, so that a range alone does not give it
+        for k in 0..n {
+            let p = self.direction.visited_at(n, k);
+            let new = self.gather(rows, p);
+            changed |= rows[p] != new;
+            rows[p] = new;
+        }
+        changed
     }
-}
 
-// Visits each point once, and says whether a row has changed.
-fn go_round<K: RowKind>(
-    kind: &K,
-    direction: Direction,
-    points: &[Point],
-    notes: &[K::Note],
-    rows: &mut [K::Row],
-) -> bool
-    requires noted { length notes.now ≡ length points.now }
-    requires filled { length rows.old ≡ length points.now }
-    ensures table { rows.new ≡ round (K.meaning kind.now) (job_of direction (all_contents points.now) notes.now) rows.old }
-    ensures idle { result ≡ false → rows.new ≡ rows.old }
-    ensures moved { result ≡ true → rows.new ≢ rows.old }
-{
-    let mut changed = false;
-    for k in 0..points.len() {
-        let p = visited_at(direction, points.len(), k);
-        let new = gather(kind, direction, points, notes, rows, p);
-        let kept = kind.same(&rows[p], &new);
-        rows[p] = new;
-        changed |= !kept;
+    // The merge, beginning from the start row, of the advanced rows of the inputs of p.
+    fn gather(&self, rows: &[K::Row], p: usize) -> K::Row
+        requires filled { length rows.now ≡ length self.now.points.now }
+        requires inside { p < length self.now.points.now }
+        ensures { result ≡ merged (K.meaning self.now.kind.now) (job_of self.now.direction (all_contents self.now.points.now) self.now.notes.now) rows.now p }
+    {
+        let mut all = self.kind.start();
+        for (q, row) in rows.iter().enumerate() {
+            if self.is_input(p, q) {
+                all = self
+                    .kind
+                    .merge(&all, &self.kind.advance(row, &self.notes[q]));
+            }
+        }
+        all
     }
-    changed
-}
 
-// The merge, beginning from the start row, of the advanced rows of the inputs of p.
-fn gather<K: RowKind>(
-    kind: &K,
-    direction: Direction,
-    points: &[Point],
-    notes: &[K::Note],
-    rows: &[K::Row],
-    p: usize,
-) -> K::Row
-    requires noted { length notes.now ≡ length points.now }
-    requires filled { length rows.now ≡ length points.now }
-    requires inside { p < length points.now }
-    ensures { result ≡ merged (K.meaning kind.now) (job_of direction (all_contents points.now) notes.now) rows.now p }
-{
-    let mut all = kind.start();
-    for q in 0..points.len() {
-        if is_input(direction, points, p, q) {
-            let advanced = kind.advance(&rows[q], &notes[q]);
-            all = kind.merge(&all, &advanced);
+    fn is_input(&self, p: usize, q: usize) -> bool
+        requires { (p < length self.now.points.now) × (q < length self.now.points.now) }
+        ensures { result ≡ is_input self.now.direction (all_contents self.now.points.now) p q }
+    {
+        match self.direction {
+            Direction::Forward => self.points[q].leads_to(p),
+            Direction::Backward => self.points[p].leads_to(q),
         }
     }
-    all
 }

@@ -6,7 +6,7 @@ ghost use Rattle.fixpoint.specs.Answers.{Answer};
 use crate::RowKind;
 use crate::direction::Direction;
 use crate::fault::ShortTable;
-use crate::solve::run;
+use crate::solve::Solver;
 use task::task::Task;
 
 // Rows that are lent for the time of a call.
@@ -51,6 +51,12 @@ impl<'a, R: Copy> Table<'a, R> {
         if self.rows.len() < n || notes.len() < n {
             return Err(ShortTable);
         }
-        Ok(run(kind, direction, points, &notes[0..n], &mut self.rows[0..n]))
+        let solver = Solver {
+            kind,
+            direction,
+            points,
+            notes: &notes[0..n],
+        };
+        Ok(solver.run(&mut self.rows[0..n]))
     }
 }

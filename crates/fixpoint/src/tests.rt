@@ -26,6 +26,8 @@ impl RowKind for Counter {
 
     ghost lawful = { Prim.search rules };
 
+    ghost equality = { Prim.search rules };
+
     fn start(&self) -> u8 {
         0
     }
@@ -40,10 +42,6 @@ impl RowKind for Counter {
 
     fn height(&self) -> u32 {
         self.cap as u32
-    }
-
-    fn same(&self, a: &u8, b: &u8) -> bool {
-        *a == *b
     }
 }
 

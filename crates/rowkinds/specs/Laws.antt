@@ -1,8 +1,10 @@
 -- The laws of ages. Assumes nothing.
 use Rattle.std.specs.Prelude.{ℕ, zero, suc, ◌<◌, ◌≤◌, Bool, true, false, cond, ◌&&◌, List, [], ◌∷◌, Some, None, Option, ◌==◌, nat_le, nat_lt, slice_index, slice_index_or, refl}
-use Rattle.std.proofs.Common.{◌∙◌, arith}
+use lib.Pointwise.{pointwise}
+use Rattle.std.proofs.Common.{◌≡◌, eqb, Decides, ap, ◌∙◌, arith}
 use Rattle.std.proofs.lemmas.Bool.{cond_both, eqb-true}
-use Rattle.std.proofs.lemmas.Bool.Decides.{nat_tests}
+use Rattle.std.proofs.lemmas.Bool.Decides.{nat_tests, Decides-eqb}
+use Rattle.std.proofs.lemmas.Slice.Eq.{slice_eq-Decides}
 use Rattle.fixpoint.specs.Kinds.{Laws}
 use Rattle.cells.specs.Cells.{CellLaws, OwnRow, EachAtOrBefore, each}
 use Rattle.cells.proofs.Lists.{length_each}
@@ -80,3 +82,9 @@ ages_laws ways n sets = rows_laws (age_cell ways n) (age_laws ways n sets) 64 ag
 
 pub ages_tell : (ways n : ℕ) (sets : List ℕ) → RankTells (ages_meaning ways n sets)
 ages_tell ways n sets = rows_tell (age_cell ways n) (age_laws ways n sets) 64 age_list ages_row (OwnAccess n) (ages_after ways n sets) (λ r. refl)
+
+-- rows are equal where their ages are
+pub ages_equality : (a b : Ages) → Decides (pointwise eqb a.ages b.ages) (a ≡ b)
+ages_equality a b =
+    let d = slice_eq-Decides Decides-eqb a.ages b.ages (pointwise eqb a.ages b.ages) refl in
+    (λ t. ap ages_row (d.0 t), λ e. d.1 (ap age_list e))

@@ -4,7 +4,7 @@ mod methods;
 ghost use Rattle.std.specs.Prelude.{◌≡◌, ◌≤◌, length};
 
 // The age of each of a task's blocks, 0 to ways, in the order of `Task::blocks`. Past the last block stands `ways`.
-#[derive(Clone, Copy)]
+#[derive(Clone, Copy, PartialEq, Eq)]
 pub struct Ages {
     ages: [u8; 64],
 }

@@ -2,3 +2,6 @@
 #![tactic(auto)]
 
 pub mod ages;
+mod sets;
+
+pub use sets::block_sets;

@@ -1,8 +1,12 @@
 -- The laws of widest next uses. Assumes nothing.
 use Rattle.std.specs.Prelude.{◌≡◌, ℕ, ◌+◌, ◌≤◌, max, true, false, cond, Some, None, Option, nat_lt, slice_set, refl}
-use Rattle.std.proofs.Common.{ap, ◌∙◌, arith, length-set}
+use lib.Pointwise.{pointwise}
+use Rattle.std.proofs.Common.{Decides, eqb, ap, ◌∙◌, arith, length-set}
+use Rattle.std.specs.Option.{option_eq}
+use Rattle.std.proofs.lemmas.Bool.Decides.{Decides-eqb}
 use Rattle.fixpoint.specs.Kinds.{Laws}
 use Rattle.cells.specs.Cells.{CellLaws, OwnRow, EachAtOrBefore}
+use Rattle.cells.proofs.Matching.{matches_by}
 use Rattle.cells.proofs.Rows.{own_set, before_set}
 use Rattle.cells.proofs.RowLaws.{rows_laws}
 use Rattle.cells.proofs.Tells.{rows_tell}
@@ -77,3 +81,9 @@ next_uses_laws n = rows_laws (count_cell n) (count_laws n) 64 count_list next_us
 
 pub next_uses_tell : (n : ℕ) → RankTells (next_uses_meaning n)
 next_uses_tell n = rows_tell (count_cell n) (count_laws n) 64 count_list next_uses_row (OwnUse n) (next_uses_after n) (λ r. refl)
+
+-- rows are equal where their counts are
+pub next_uses_equality : (a b : NextUses) → Decides (pointwise (option_eq eqb) a.counts b.counts) (a ≡ b)
+next_uses_equality a b =
+    let d = matches_by eqb Decides-eqb a.counts b.counts (pointwise (option_eq eqb) a.counts b.counts) refl in
+    (λ t. ap next_uses_row (d.0 t), λ e. d.1 (ap count_list e))

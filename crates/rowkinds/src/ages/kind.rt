@@ -1,10 +1,11 @@
 ghost use Rattle.std.specs.Prelude.{◌≡◌, ◌<◌, min, slice_index};
 ghost use Rattle.cells.specs.Cells.{both, each};
 ghost use Rattle.rowkinds.specs.Ages.{age_after, ages_meaning, grown};
-ghost use Rattle.rowkinds.specs.Laws.{ages_laws};
+ghost use Rattle.rowkinds.specs.Laws.{ages_equality, ages_laws};
 
 use crate::ages::{AgeKind, Ages};
 use fixpoint::RowKind;
+use std::array;
 
 impl RowKind for AgeKind {
     type Row = Ages;
@@ -16,6 +17,8 @@ impl RowKind for AgeKind {
 
     ghost lawful = { λ k. ages_laws k.ways k.blocks k.sets };
 
+    ghost equality = { ages_equality };
+
     fn start(&self) -> Ages {
         Ages {
             ages: [self.ways; 64],
@@ -24,60 +27,37 @@ impl RowKind for AgeKind {
 
     fn merge(&self, a: &Ages, b: &Ages) -> Ages {
         Ages {
-            ages: merge_each(&a.ages, &b.ages),
+            ages: array::from_fn(|i| a.ages[i].min(b.ages[i])),
         }
     }
 
     fn advance(&self, row: &Ages, note: &Option<usize>) -> Ages {
         match *note {
-            None => *row,
-            Some(block) => {
-                if block < self.blocks as usize {
-                    Ages {
-                        ages: access(self.ways, &self.sets, &row.ages, block),
-                    }
-                } else {
-                    *row
-                }
-            }
+            Some(block) if block < self.blocks as usize => Ages {
+                ages: array::from_fn(|i| self.after_access(row, block, i)),
+            },
+            _ => *row,
         }
     }
 
     fn height(&self) -> u32 {
         self.blocks as u32 * self.ways as u32
     }
-
-    fn same(&self, a: &Ages, b: &Ages) -> bool {
-        a.ages == b.ages
-    }
 }
 
-fn merge_each(a: &[u8; 64], b: &[u8; 64]) -> [u8; 64]
-    ensures { result ≡ both min a.now b.now }
-{
-    let mut out = [0; 64];
-    for i in 0..64 {
-        out[i] = a[i].min(b[i]);
+impl AgeKind {
+    // The age of block i after an access of block b.
+    fn after_access(&self, row: &Ages, b: usize, i: usize) -> u8
+        requires accessed { b < 64 }
+        requires inside { i < 64 }
+        ensures { result ≡ age_after self.now.ways self.now.sets b (slice_index row.now.ages b) i (slice_index row.now.ages i) }
+    {
+        if i == b {
+            return 0;
+        }
+        let near = self.sets[i] == self.sets[b];
+        grow(self.ways, near, row.ages[b], row.ages[i])
     }
-    out
-}
-
-// The ages after an access of block b.
-fn access(ways: u8, sets: &[u8; 64], ages: &[u8; 64], b: usize) -> [u8; 64]
-    requires { b < 64 }
-    ensures { result ≡ each (age_after ways sets.now b (slice_index ages.now b)) 0 ages.now }
-{
-    let mut out = [0; 64];
-    let home = sets[b];
-    let old = ages[b];
-    for i in 0..64 {
-        out[i] = if i == b {
-            0
-        } else {
-            grow(ways, sets[i] == home, old, ages[i])
-        };
-    }
-    out
 }
 
 // The age of a block other than the accessed one, whose age was old.

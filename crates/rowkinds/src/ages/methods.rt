@@ -6,6 +6,7 @@ ghost use Rattle.rowkinds.specs.Ages.{age_list};
 ghost use Rattle.rowkinds.specs.BlockSets.{block_sets, filled_up};
 
 use crate::ages::{AgeKind, Ages};
+use crate::sets::block_sets;
 use task::task::Task;
 
 impl Ages {
@@ -24,16 +25,10 @@ impl AgeKind {
         ensures blocks { result.blocks ≡ length (distinct_blocks (contents task.now).points) }
         ensures sets { result.sets ≡ filled_up 64 (block_sets (contents task.now)) }
     {
-        let cache = task.parameters();
-        let blocks = task.blocks();
-        let mut sets = [0; 64];
-        for (i, b) in blocks.iter().enumerate() {
-            sets[i] = task.set_of(*b) as u8;
-        }
         AgeKind {
-            ways: cache.ways,
-            blocks: blocks.len() as u8,
-            sets,
+            ways: task.parameters().ways,
+            blocks: task.blocks().len() as u8,
+            sets: block_sets(task),
         }
     }
 }

@@ -1,10 +1,11 @@
 ghost use Rattle.std.specs.Prelude.{◌≡◌};
 ghost use Rattle.cells.specs.Cells.{both};
 ghost use Rattle.widest.specs.NextUses.{larger, next_uses_meaning};
-ghost use Rattle.widest.specs.Laws.{next_uses_laws};
+ghost use Rattle.widest.specs.Laws.{next_uses_equality, next_uses_laws};
 
 use crate::next_uses::{NextUse, NextUseKind, NextUses};
 use fixpoint::RowKind;
+use std::array;
 
 impl RowKind for NextUseKind {
     type Row = NextUses;
@@ -16,22 +17,25 @@ impl RowKind for NextUseKind {
 
     ghost lawful = { λ k. next_uses_laws k.blocks };
 
+    ghost equality = { next_uses_equality };
+
     fn start(&self) -> NextUses {
         NextUses { counts: [None; 64] }
     }
 
     fn merge(&self, a: &NextUses, b: &NextUses) -> NextUses {
         NextUses {
-            counts: merge_each(&a.counts, &b.counts),
+            counts: array::from_fn(|i| larger_of(a.counts[i], b.counts[i])),
         }
     }
 
     fn advance(&self, row: &NextUses, note: &Option<NextUse>) -> NextUses {
         let mut after = *row;
-        if let Some(access) = *note {
-            if access.block < self.blocks as usize {
+        match *note {
+            Some(access) if access.block < self.blocks as usize => {
                 after.counts[access.block] = access.conflicts;
             }
+            _ => {}
         }
         after
     }
@@ -39,28 +43,11 @@ impl RowKind for NextUseKind {
     fn height(&self) -> u32 {
         self.blocks as u32 * self.blocks as u32
     }
-
-    fn same(&self, a: &NextUses, b: &NextUses) -> bool {
-        a.counts == b.counts
-    }
 }
 
-fn merge_each(a: &[Option<u8>; 64], b: &[Option<u8>; 64]) -> [Option<u8>; 64]
-    ensures { result ≡ both larger a.now b.now }
-{
-    let mut out = [None; 64];
-    for i in 0..64 {
-        out[i] = larger_of(a[i], b[i]);
-    }
-    out
-}
-
+// `None` is lowest.
 fn larger_of(a: Option<u8>, b: Option<u8>) -> Option<u8>
     ensures { result ≡ larger a b }
 {
-    match (a, b) {
-        (None, _) => b,
-        (Some(_), None) => a,
-        (Some(x), Some(y)) => Some(x.max(y)),
-    }
+    a.max(b)
 }

@@ -24,6 +24,11 @@ returns-then-self-n g c =
     let n = many c.points-points.result.now (contents c.args.task.now).points c.points-points.ensures in
     record { answer = record { short = ⊎_elim (λ a. inl (omega arith)) (λ b. inr (omega arith)) c.then-self-n.either; same = refl }; lent = refl }
 
+pub invariant_of-solver : goal.invariant_of-solver
+invariant_of-solver g c =
+    let n = many c.points-points.result.now (contents c.args.task.now).points c.points-points.ensures in
+    record { noted = length-take-le (length c.points-points.result.now - 0) c.args.notes.now (omega arith) ∙ omega arith }
+
 pub run-requires : goal.run-requires
 run-requires g c =
     let t = contents c.args.task.now in
@@ -32,7 +37,6 @@ run-requires g c =
     let k = length c.points-points.result.now - 0 in
     record {
       few = omega arith;
-      noted = length-take-le k c.args.notes.now (omega arith) ∙ omega arith;
       filled = length-take-le k c.args.self.now.rows.now (omega arith) ∙ omega arith;
     }
 

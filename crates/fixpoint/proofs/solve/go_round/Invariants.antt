@@ -1,7 +1,0 @@
-use Rattle.task.specs.Meaning.{all_contents}
-use Rattle.fixpoint.specs.Rounds.{job_of}
-use Rattle.fixpoint.proofs.Idle.{Along}
-use Rattle.fixpoint.proofs.solve.go_round.Given as goal
-
-abbrev pub invariant-loop-k : goal.invariant-loop-k
-invariant-loop-k g l = Along (g.K.RowKind.meaning l.kind) (job_of l.direction (all_contents l.points) l.notes) l.initial.rows l.rows l.k l.changed
