@@ -1,3 +1,4 @@
+pub mod Chains
 pub mod Rising
 pub mod Noting
 pub mod Drafting

@@ -1,5 +1,6 @@
 ghost use Rattle.std.specs.Prelude.{◌≡◌, Bool, if◌then◌else◌, Some, None};
 ghost use Rattle.std.specs.Option.{option_map};
+ghost use Rattle.recency.specs.Blocks.{has};
 ghost use Rattle.task.specs.Contents.{point_with};
 ghost use Rattle.task.specs.Legal.{legal_access, legal_point};
 ghost use Rattle.task.specs.Lists.{rising};
@@ -39,6 +40,13 @@ impl Point {
         ensures { result.now ≡ (point_contents self.now).successors }
     {
         &self.successors[0..self.count as usize]
+    }
+
+    // Whether point `to` may come next.
+    pub fn leads_to(&self, to: usize) -> bool
+        ensures { result ≡ has to (point_contents self.now).successors }
+    {
+        self.successors().iter().any(|s| *s as usize == to)
     }
 }
 
