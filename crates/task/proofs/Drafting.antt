@@ -1,5 +1,5 @@
 -- A draft stays legal as points and evicting blocks are added. Assumes nothing.
-use Rattle.std.proofs.Common.{◌≡◌, ℕ, ◌<◌, ◌≤◌, Bool, true, false, leb, List, [], ◌∷◌, ◌++◌, length, refl, ap, ◌∙◌, arith}
+use Rattle.std.proofs.Common.{◌≡◌, ℕ, ◌<◌, ◌≤◌, Bool, true, false, ◌&&◌, leb, List, [], ◌∷◌, ◌++◌, length, refl, ap, ◌∙◌, arith}
 use Rattle.std.proofs.lemmas.List.{length_push}
 use Rattle.std.proofs.lemmas.Bool.{and_parts, and_from, and_left, and_right, leb-true, le-leb, lt-leb}
 use Rattle.task.specs.Contents.{PointContents, TaskContents, add_point, add_evicting}
@@ -64,11 +64,11 @@ module _ (ps : List PointContents) (p : PointContents) where
   pub points_full : length ps ≡ 128 → few_points (ps ++ (p ∷ [])) ≡ false
   points_full h = let l = length_push ps p in and_left _ _ (lt-leb (length (ps ++ (p ∷ []))) 128 (omega arith))
 
-  pub blocks_full : leb (length (noted (distinct_blocks ps) p.access)) 64 ≡ false → few_points (ps ++ (p ∷ [])) ≡ false
-  blocks_full h = and_right _ _ (ap (λ n. leb n 64) noted_length ∙ h)
-
-  pub room_left : length ps < 128 → leb (length (noted (distinct_blocks ps) p.access)) 64 ≡ true → few_points (ps ++ (p ∷ [])) ≡ true
-  room_left h k = let l = length_push ps p in and_from _ _ (le-leb (length (ps ++ (p ∷ []))) 128 (omega arith)) (ap (λ n. leb n 64) noted_length ∙ k)
+  -- with room for the point, its block decides
+  pub few_by_blocks : length ps < 128 → few_points (ps ++ (p ∷ [])) ≡ leb (length (noted (distinct_blocks ps) p.access)) 64
+  few_by_blocks h =
+      let l = length_push ps p in
+      ap (λ (v : Bool). v && leb (length (distinct_blocks (ps ++ (p ∷ [])))) 64) (le-leb (length (ps ++ (p ∷ []))) 128 (omega arith)) ∙ ap (λ n. leb n 64) noted_length
 
 -- a block at the end of legal evicting blocks
 pub every_last : {X : Type 0} (good : X → Bool) (xs : List X) (x : X) → good x ≡ false → every good (xs ++ (x ∷ [])) ≡ false

@@ -3,4 +3,3 @@ pub mod Rising
 pub mod Noting
 pub mod Drafting
 pub mod Blocks
-pub mod Searching

@@ -53,20 +53,12 @@ impl Point {
 fn is_block(access: Option<u32>) -> bool
     ensures { result ≡ legal_access access }
 {
-    match access {
-        Some(block) => block <= Point::MAX_BLOCK,
-        None => true,
-    }
+    access.is_none_or(|block| block <= Point::MAX_BLOCK)
 }
 
 // Each is below the next.
 fn is_rising(numbers: &[u8]) -> bool
     ensures { result ≡ rising numbers.now }
 {
-    for i in 1..numbers.len() {
-        if numbers[i - 1] >= numbers[i] {
-            return false;
-        }
-    }
-    true
+    numbers.is_sorted_by(|one, next| one < next)
 }

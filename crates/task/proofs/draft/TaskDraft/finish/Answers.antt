@@ -6,7 +6,7 @@ use Rattle.task.specs.Legal.{closed_point, first_open}
 use Rattle.task.specs.Adding.{no_point, closing}
 use Rattle.task.specs.Meaning.{point_contents, all_contents}
 use Rattle.task.specs.declared.point.Point.{Point}
-use Rattle.task.proofs.Searching.{every_none}
+use Rattle.task.proofs.Chains.{every_none}
 use Rattle.task.proofs.draft.TaskDraft.finish.Goals as goal
 
 -- the test for points, said of what they say
