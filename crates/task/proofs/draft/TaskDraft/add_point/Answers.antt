@@ -1,6 +1,6 @@
 use Rattle.std.proofs.Common.{◌≡◌, ℕ, Bool, cond, true, false, leb, List, [], ◌∷◌, ◌++◌, length, vec_items, vec_len, Option, sym, refl, ap, ◌∙◌, arith}
 use Rattle.std.proofs.lemmas.List.{length-map, map_push}
-use Rattle.std.proofs.lemmas.Bool.{cond-true, cond-false}
+use Rattle.std.proofs.lemmas.Bool.{cond-false}
 use Rattle.std.proofs.lemmas.Result.{err_from_is_err_and}
 use Rattle.task.specs.Contents.{PointContents, TaskContents, task_with}
 use Rattle.task.specs.Blocks.{noted, distinct_blocks}
@@ -11,7 +11,7 @@ use Rattle.task.specs.Drafts.{draft_contents}
 use Rattle.task.specs.declared.draft.TaskDraft.{TaskDraft}
 use Rattle.task.specs.declared.point.Point.{Point}
 use Rattle.task.proofs.Noting.{noted_push}
-use Rattle.task.proofs.Drafting.{kept, point_added, points_full, few_by_blocks}
+use Rattle.task.proofs.Drafting.{kept, point_added, few_by_blocks}
 use Rattle.task.proofs.draft.TaskDraft.add_point.Goals as goal
 
 verdict_full : (t : TaskContents) (p : PointContents) → few_points (t.points ++ (p ∷ [])) ≡ false → too_many ≡ point_verdict t p
@@ -20,19 +20,6 @@ verdict_full t p h = sym (cond-false _ fits too_many h)
 -- as many points in the draft as in what it says
 counted : (d : TaskDraft) → length (draft_contents d).points ≡ vec_len d.points
 counted d = length-map (vec_items d.points) point_contents ∙ sym d.points.ok.0
-
-pub note_access-requires : goal.note_access-requires
-note_access-requires c =
-    let d = c.args.self.now in
-    let k = kept (draft_contents d) d.legal in
-    let n = d.blocks.ok.0 in
-    record { few = omega (arith, ap length d.named, k.blocks_few); room = d.blocks_room }
-
-pub returns-then-len-eq-MAX_POINTS : goal.returns-then-len-eq-MAX_POINTS
-returns-then-len-eq-MAX_POINTS c =
-    let d = c.args.self.now in
-    let p = point_contents c.args.point in
-    record { verdict = verdict_full (draft_contents d) p (points_full (draft_contents d).points p (counted d ∙ (let e = c.len.ensures in omega arith))); after = refl }
 
 -- what was answered of the draft's blocks, said of its points
 judged : (d : TaskDraft) (p : Point) (access : Option ℕ) (n : ℕ) (v : Verdict) → access ≡ p.access → n ≡ vec_len d.points → (n ≡ 128 → ⊥) → v ≡ cond (leb (length (noted (vec_items d.blocks) access)) 64) fits too_many
@@ -51,15 +38,6 @@ returns-in_err-note_access-clause-verdict c =
     let q = err_from_is_err_and c.from_residual.result c.from_residual.ensures.1 in
     let v = judged c.args.self.now c.args.point _ _ _ c.access.ensures c.len.ensures c.if-len-eq-MAX_POINTS.false c.in_err-note_access.ensures.verdict in
     rw (q.1, q.2) v
-
-pub push_reserved-requires : goal.push_reserved-requires
-push_reserved-requires c =
-    let d = c.args.self.now in
-    let k = kept (draft_contents d) d.legal in
-    let n = counted d in
-    let r = d.points_room in
-    let e = c.len.ensures in
-    omega (arith, k.points_few)
 
 few_if_fit : (v : Bool) → fits ≡ cond v fits too_many → v ≡ true
 few_if_fit true h = refl
@@ -86,15 +64,4 @@ invariant_of-self-2 c =
       points_room = let e = c.push_reserved.ensures.capacity in let r = d.points_room in omega arith;
       blocks_room = let e = more.capacity in let r = d.blocks_room in omega arith;
       evicting_room = d.evicting_room;
-    }
-
-pub returns : goal.returns
-returns c =
-    let d = c.args.self.now in
-    let p = c.args.point in
-    let added = pushed d p (vec_items c.push_reserved.new.self) c.push_reserved.ensures.items in
-    let ok = few_if_fit _ (judged d p _ _ _ c.access.ensures c.len.ensures c.if-len-eq-MAX_POINTS.false c.in_ok-note_access.ensures.verdict) in
-    record {
-      verdict = sym (cond-true (few_points ((draft_contents d).points ++ (point_contents p ∷ []))) fits too_many ok);
-      after = ap (with_points (draft_contents d)) added;
     }
