@@ -1,5 +1,5 @@
 -- One block more in the counts of the cache sets. Assumes nothing.
-use Rattle.std.proofs.Common.{◌≡◌, ℕ, zero, suc, ◌+◌, ◌<◌, ◌≤◌, Bool, true, false, cond, ◌&&◌, List, length, get_or, set, replicate, sym, ap, ◌∙◌, inl, inr, add-zero, arith, length-set, get_or-set_other, get_or-set_same}
+use Rattle.std.proofs.Common.{◌≡◌, ℕ, zero, suc, ◌+◌, ◌<◌, ◌≤◌, Bool, true, false, cond, ◌&&◌, List, length, get_or, set, replicate, sym, refl, ap, ◌∙◌, inl, inr, add-zero, arith, length-set, get_or-set_other, get_or-set_same}
 use lib.ListN.{length-replicate, get_or-replicate}
 use Rattle.std.proofs.lemmas.Bool.{and_from, and_left, and_right, cases_eq, cond-true, cond-false, eq-eqb, ne_eqb}
 use Rattle.recency.specs.Blocks.{set_of}
@@ -17,6 +17,20 @@ counted_one test n h = ap (λ (k : ℕ). count_below test n + k) (cond-true (tes
 
 counted_none : (test : ℕ → Bool) (n : ℕ) → test n ≡ false → count_below test (suc n) ≡ count_below test n
 counted_none test n h = ap (λ (k : ℕ). count_below test n + k) (cond-false (test n) 1 0 h) ∙ add-zero _
+
+pub few_start : (s : ℕ) → s < 64 → get_or (replicate 64 0) s 0 ≤ 0
+few_start s small = let e = get_or-replicate {A = ℕ} 64 s 0 0 small in omega arith
+
+-- a count that rises by one still is at most the number of blocks
+pub few_more : (cells : List ℕ) (h n : ℕ) → length cells ≡ 64 → h < 64 → ((s : ℕ) → s < 64 → get_or cells s 0 ≤ n) → (s : ℕ) → s < 64 → get_or (set cells h (get_or cells h 0 + 1)) s 0 ≤ n + 1
+few_more cells h n room within few s small =
+    let inside : h < length cells = omega arith in
+    let here = few h within in
+    let there = few s small in
+    elim (cases_eq h s) [
+      | inl e ↦ let k = ap (λ (j : ℕ). get_or (set cells h (get_or cells h 0 + 1)) j 0) (sym e) ∙ get_or-set_same cells h (get_or cells h 0 + 1) 0 inside in omega arith
+      | inr ne ↦ let k = get_or-set_other cells h s (get_or cells h 0 + 1) 0 (λ e. ne (sym e)) in omega arith
+    ]
 
 pub counted_start : (test : ℕ → ℕ → Bool) → Counted (replicate 64 0) test 0
 counted_start test = (length-replicate {A = ℕ} 64 0, λ s small. get_or-replicate 64 s 0 0 small)
@@ -47,6 +61,14 @@ module _ (cells : List ℕ) (test : ℕ → ℕ → Bool) (n : ℕ) (counted : C
   -- a count has room for one more
   pub count_within : (h : ℕ) → h < 64 → get_or cells h 0 ≤ n
   count_within h within = let e = counted.1 h within in let few = count_few (test h) n in omega arith
+
+-- tests that say the same count the same
+count_same : (f g : ℕ → Bool) (n : ℕ) → ((i : ℕ) → f i ≡ g i) → count_below f n ≡ count_below g n
+count_same f g zero e = refl
+count_same f g (suc n) e = ap (λ (k : ℕ). k + cond (f n) 1 0) (count_same f g n e) ∙ ap (λ (b : Bool). count_below g n + cond b 1 0) (e n)
+
+pub counted_same : (cells : List ℕ) (f g : ℕ → ℕ → Bool) (n : ℕ) → ((s i : ℕ) → f s i ≡ g s i) → Counted cells f n → Counted cells g n
+counted_same cells f g n e h = (h.0, λ s small. h.1 s small ∙ count_same (f s) (g s) n (e s))
 
 -- a listed block is counted in its own cache set, where it passes one test more
 module _ (sets : ℕ) (blocks cells : List ℕ) (more : ℕ → ℕ → Bool) (n : ℕ) (counted : Counted cells (λ s i. is_in sets blocks s i && more s i) n) where

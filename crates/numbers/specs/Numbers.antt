@@ -1,40 +1,19 @@
 -- The four numbers of a point: how many loads one interruption there can make the task repeat, by useful blocks, by
 -- evicting blocks, by both, and by resilience.
-use Rattle.std.specs.Prelude.{ℕ, ◌+◌, min, Bool, false, cond, ◌&&◌, List, length, Some, None, Option, ◌==◌, nat_le, nat_lt, slice_index, slice_index_or}
-use Rattle.std.specs.List.{slice_get}
+use Rattle.std.specs.Prelude.{ℕ, min, Bool, cond, ◌&&◌, List, length, None, ◌==◌, nat_lt, slice_index, slice_index_or}
 use Rattle.recency.specs.Blocks.{set_of}
 use Rattle.task.specs.Blocks.{distinct_blocks}
 use Rattle.task.specs.Contents.{TaskContents}
-use Rattle.rowkinds.specs.Ages.{age_list}
 use Rattle.rowkinds.specs.declared.ages.Ages.{Ages}
 use Rattle.widest.specs.NextUses.{count_list}
 use Rattle.widest.specs.declared.next_uses.NextUses.{NextUses}
 use Rattle.numbers.specs.Counts.{count_below, sum_below}
+use Rattle.numbers.specs.Tests.{reached, useful}
 use Rattle.numbers.specs.declared.PointNumbers.{PointNumbers}
-
--- what the tables say of a point: the ages before its access, the reuse distances from its access on, and the widest
--- next uses from its access on
-pub record View : Type 0 where
-  pub ages : Ages
-  pub reuses : Ages
-  pub uses : NextUses
+use Rattle.numbers.specs.declared.view.View.{View}
 
 abbrev pub view : Ages → Ages → NextUses → View
 view ages reuses uses = record { ages = ages; reuses = reuses; uses = uses }
-
-abbrev pub below : ℕ → Option ℕ → Bool
-below ways None = false
-below ways (Some age) = nat_lt age ways
-
--- the block at index i may be in the cache, and may be used again while it still is there: its age and its reuse
--- distance are both below ways
-abbrev pub useful : ℕ → Ages → Ages → ℕ → Bool
-useful ways ages reuses i = below ways (slice_get (age_list ages) i) && below ways (slice_get (age_list reuses) i)
-
--- with e evicting blocks, a next use with so many conflicts can miss
-abbrev pub reached : ℕ → ℕ → Option ℕ → Bool
-reached ways e None = false
-reached ways e (Some conflicts) = nat_le ways (conflicts + e)
 
 -- the block at index i of a list is of cache set s
 abbrev pub is_in : ℕ → List ℕ → ℕ → ℕ → Bool
