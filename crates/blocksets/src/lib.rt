@@ -1,7 +1,7 @@
 // Sets of block indices below 64.
 #![tactic(auto)]
 
-ghost use Rattle.std.specs.Prelude.{◌≡◌, ℕ, ◌<◌, ◌⊎◌, Decides};
+ghost use Rattle.std.specs.Prelude.{◌≡◌, ℕ, ◌<◌, ◌≤◌, ◌⊎◌, Decides};
 ghost use Rattle.blocksets.specs.Members.{Holds, Iff, joined, no_blocks, size, with_block};
 
 // A set of block indices below 64. An index from 64 on is in no set, and adding it changes nothing.
@@ -53,7 +53,8 @@ impl BlockSet {
 
     // How many blocks the set has.
     pub fn count(self) -> u32
-        ensures { result ≡ size self }
+        ensures is { result ≡ size self }
+        ensures few { result ≤ 64 }
     {
         self.mask.count_ones()
     }

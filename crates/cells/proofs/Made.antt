@@ -1,8 +1,8 @@
 -- Arrays made by a call for each index. Assumes nothing.
-use Rattle.std.proofs.Common.{◌≡◌, ℕ, zero, suc, ◌+◌, ◌<◌, List, length, get_or, sym, refl, ap, ◌∙◌, subst, zero-add, arith}
+use Rattle.std.proofs.Common.{◌≡◌, ℕ, zero, suc, ◌+◌, ◌<◌, ◌≤◌, List, length, get_or, take, sym, refl, ap, ◌∙◌, subst, zero-add, arith}
 use denote.Param.Members.{Mut, Called}
 use Rattle.std.specs.Array.{IsFromFnResult, IsFromFnResultFrom}
-use Rattle.std.proofs.lemmas.List.{ext_get_or}
+use Rattle.std.proofs.lemmas.List.{ext_get_or, get_or-take, length-take-le}
 use Rattle.cells.specs.Cells.{both, each}
 use Rattle.cells.proofs.Lists.{length_both, getD_both, length_each, getD_each}
 
@@ -38,3 +38,13 @@ made_each g f op d n xs zs e calls h =
     let m = length_each op 0 xs in
     ext_get_or d zs (each op 0 xs) (h.long ∙ sym e ∙ sym m)
     (λ i l. made_at g f n (λ (j : ℕ). op j (get_or xs j d)) calls zs i d h (omega (arith, h.long)) ∙ sym (getD_each op 0 xs i d (omega (arith, h.long)) ∙ ap (λ (k : ℕ). op k (get_or xs i d)) (zero-add i)))
+
+-- the first of what the calls give, where a list says of each what it is
+pub made_first : {F E : Type 0} (g : Mut F (ℕ × Unit {0}) E) (f : F) (of : ℕ → E) (d : E) (n : ℕ) (xs zs : List E) → length xs ≤ n
+    → ((i : ℕ) (z : E) (q : F) → i < n → Called g f (i, tt) z q → (z ≡ of i) × (q ≡ f))
+    → ((i : ℕ) → i < length xs → of i ≡ get_or xs i d)
+    → IsFromFnResult g f zs n → take (length xs) zs ≡ xs
+made_first g f of d n xs zs few calls same h =
+    let k = length-take-le (length xs) zs (omega (arith, few, h.long)) in
+    ext_get_or d (take (length xs) zs) xs k
+    (λ i l. let m : i < length xs = omega (arith, k, l) in get_or-take (length xs) zs i d m ∙ made_at g f n of calls zs i d h (omega arith) ∙ same i m)

@@ -4,7 +4,8 @@ use Rattle.task.specs.Blocks.{access_at, access_index}
 use Rattle.task.specs.Contents.{TaskContents}
 use Rattle.rowkinds.specs.declared.ages.Ages.{Ages}
 use Rattle.conflicts.specs.declared.Conflicts.{Conflicts}
-use Rattle.numbers.specs.Numbers.{View, view, numbers}
+use Rattle.numbers.specs.Numbers.{view, numbers}
+use Rattle.numbers.specs.declared.view.View.{View}
 use Rattle.numbers.specs.declared.PointNumbers.{PointNumbers}
 use Rattle.widest.specs.declared.next_uses.NextUses.{NextUses}
 use Rattle.tables.specs.Tables.{age_kind, blocks, conflict_kind, next_use_kind, settled_ages, settled_reuses, settled_conflicts, settled_widest, use_note}

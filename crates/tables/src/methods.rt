@@ -11,7 +11,7 @@ use fixpoint::RowKind;
 use fixpoint::direction::Direction;
 use fixpoint::fault::ShortTable;
 use fixpoint::table::Table;
-use numbers::{PointNumbers, point_numbers};
+use numbers::{PointNumbers, View, point_numbers};
 use rowkinds::ages::{AgeKind, Ages};
 use task::task::Task;
 use widest::next_uses::{NextUseKind, NextUses};
@@ -30,15 +30,11 @@ impl<'a> Tables<'a> {
         ensures lent_conflicts { result.conflicts.rows.ghost_name ≡ conflicts.entry.ghost_name }
         ensures lent_widest { result.widest.rows.ghost_name ≡ widest.entry.ghost_name }
     {
-        let ages = Table::over(ages);
-        let reuses = Table::over(reuses);
-        let conflicts = Table::over(conflicts);
-        let widest = Table::over(widest);
         Tables {
-            ages,
-            reuses,
-            conflicts,
-            widest,
+            ages: Table::over(ages),
+            reuses: Table::over(reuses),
+            conflicts: Table::over(conflicts),
+            widest: Table::over(widest),
         }
     }
 
@@ -71,7 +67,7 @@ impl<'a> Tables<'a> {
             Direction::Forward,
             &notes,
         );
-        let uses = use_notes(n, &self.conflicts, &notes);
+        let uses = use_notes(&self.conflicts, &notes);
         let widest = settle_one(
             &mut self.widest,
             &NextUseKind::of(task),
@@ -96,8 +92,11 @@ impl<'a> Tables<'a> {
         let conflicts = self.conflicts.row(p)?;
         let widest = self.widest.row(p)?;
         let note = task.block_index(p);
-        let reuses = AgeKind::of(task).advance(&reuses, &note);
-        let widest = NextUseKind::of(task).advance(&widest, &use_note(&conflicts, note));
-        Some(point_numbers(task, &ages, &reuses, &widest))
+        let view = View {
+            ages,
+            reuses: AgeKind::of(task).advance(&reuses, &note),
+            uses: NextUseKind::of(task).advance(&widest, &use_note(&conflicts, note)),
+        };
+        Some(point_numbers(task, &view))
     }
 }

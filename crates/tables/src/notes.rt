@@ -1,9 +1,12 @@
-ghost use Rattle.std.specs.Prelude.{◌≡◌, ◌≤◌, length, take};
+ghost use Rattle.std.specs.Prelude.{◌≡◌, ℕ, ◌<◌, ◌≤◌, length, take, None, slice_index_or};
+ghost use Rattle.std.specs.List.{slice_get};
+ghost use Rattle.std.specs.Option.{option_and_then};
 ghost use Rattle.task.specs.Tasks.{contents};
 ghost use Rattle.tables.specs.Tables.{access_notes, use_note, use_notes};
 
 use conflicts::Conflicts;
 use fixpoint::table::Table;
+use std::array;
 use task::task::Task;
 use widest::next_uses::NextUse;
 
@@ -12,33 +15,30 @@ pub(crate) fn access_notes(task: &Task) -> [Option<usize>; 128]
     ensures room { length result ≡ 128 }
     ensures notes { take (length (contents task.now).points) result ≡ access_notes (contents task.now) }
 {
-    let points = task.points();
-    let mut notes = [None; 128];
-    for p in 0..points.len() {
-        notes[p] = task.block_index(p);
-    }
-    notes
+    array::from_fn(|p| task.block_index(p))
 }
 
-// The note of each of n points for widest next uses, from the rows of conflict sets. Past the last stands none.
+// The note of each point for widest next uses, from the rows of conflict sets. Where there is no row stands none.
 pub(crate) fn use_notes(
-    n: usize,
     rows: &Table<'_, Conflicts>,
     notes: &[Option<usize>; 128],
 ) -> [Option<NextUse>; 128]
-    requires few { n ≤ 128 }
-    requires filled { n ≤ length rows.now.rows.now }
     ensures room { length result ≡ 128 }
-    ensures notes { take n result ≡ use_notes (take n rows.now.rows.now) (take n notes.now) }
+    ensures notes { (n : ℕ) → n ≤ 128 → n ≤ length rows.now.rows.now → take n result ≡ use_notes (take n rows.now.rows.now) (take n notes.now) }
 {
-    let mut uses = [None; 128];
-    for p in 0..n {
-        let Some(row) = rows.row(p) else {
-            unreachable()
-        };
-        uses[p] = use_note(&row, notes[p]);
-    }
-    uses
+    array::from_fn(|p| use_note_at(rows, notes, p))
+}
+
+// The note of a point that has a row.
+fn use_note_at(
+    rows: &Table<'_, Conflicts>,
+    notes: &[Option<usize>; 128],
+    p: usize,
+) -> Option<NextUse>
+    requires { p < 128 }
+    ensures { result ≡ option_and_then (λ row. use_note row (slice_index_or notes.now p None)) (slice_get rows.now.rows.now p) }
+{
+    use_note(&rows.row(p)?, notes[p])
 }
 
 // The block of an access, with how many blocks conflict with it before the access.
@@ -46,9 +46,6 @@ pub(crate) fn use_note(row: &Conflicts, note: Option<usize>) -> Option<NextUse>
     ensures { result ≡ use_note row.now note }
 {
     let block = note?;
-    let conflicts = match row.set(block) {
-        Some(set) => Some(set.count() as u8),
-        None => None,
-    };
+    let conflicts = row.set(block).map(|set| set.count() as u8);
     Some(NextUse { block, conflicts })
 }

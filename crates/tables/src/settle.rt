@@ -20,8 +20,5 @@ pub(crate) fn settle_one<K: RowKind>(
     ensures solved { Solved (K.meaning kind.now) direction (contents task.now) notes.now table.old.rows.now table.new.rows.now result }
     ensures lent { table.new.rows.ghost_name ≡ table.old.rows.ghost_name }
 {
-    match table.settle(kind, task, direction, notes) {
-        Ok(rounds) => rounds,
-        Err(_) => unreachable(),
-    }
+    table.settle(kind, task, direction, notes).unwrap()
 }

@@ -40,17 +40,17 @@ returns c =
     let k = sym c.row-3.ensures ∙ c.in_ok-conflicts.was in
     let w = sym c.row-4.ensures ∙ c.in_ok-widest.was in
     let ages = c.in_ok-ages.ages in
-    let advanced : c.advance-reuses.result ≡ (ages_meaning c.of.result.ways c.of.result.blocks c.of.result.sets).advance c.in_ok-reuses.reuses note = c.advance-reuses.ensures in
+    let advanced : c.advance.result ≡ (ages_meaning c.of.result.ways c.of.result.blocks c.of.result.sets).advance c.in_ok-reuses.reuses note = c.advance.ensures in
     let reuses = advanced ∙ same_advance t c.of.result.ways c.of.result.blocks c.of.result.sets c.of.ensures.ways c.of.ensures.blocks c.of.ensures.sets c.in_ok-reuses.reuses note in
     let used : c.use_note.result ≡ use_note c.in_ok-conflicts.conflicts note = c.use_note.ensures in
     let widest =
-    c.advance-widest.ensures
+    c.advance-2.ensures
     ∙ ap (λ n. (next_uses_meaning n).advance c.in_ok-widest.widest c.use_note.result) c.of-2.ensures
     ∙ ap ((next_use_kind t).advance c.in_ok-widest.widest) used in
-    let value : c.point_numbers.result ≡ numbers t (view ages c.advance-reuses.result c.advance-widest.result) = c.point_numbers.ensures in (
+    let value : c.point_numbers.result ≡ numbers t (view ages c.advance.result c.advance-2.result) = c.point_numbers.ensures in (
       omega (arith, there here.ages.rows.now p ages a, there here.reuses.rows.now p c.in_ok-reuses.reuses r, there here.conflicts.rows.now p c.in_ok-conflicts.conflicts k, there here.widest.rows.now p c.in_ok-widest.widest w),
       value
-          ∙ ap (λ x. numbers t (view ages x c.advance-widest.result)) reuses
+          ∙ ap (λ x. numbers t (view ages x c.advance-2.result)) reuses
           ∙ ap (λ x. numbers t (view ages ((age_kind t).advance c.in_ok-reuses.reuses note) x)) widest
           ∙ numbered t (rows_of here) p ages c.in_ok-reuses.reuses c.in_ok-conflicts.conflicts c.in_ok-widest.widest a r k w note c.block_index-note.ensures,
     )

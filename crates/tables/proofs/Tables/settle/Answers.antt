@@ -1,4 +1,4 @@
-use Rattle.std.proofs.Common.{◌≡◌, ℕ, List, length, take, sym, refl, ap, ◌∙◌, subst, arith}
+use Rattle.std.proofs.Common.{◌≡◌, List, length, take, sym, refl, ap, ◌∙◌, arith}
 use lib.ListN.{length-map}
 use Rattle.task.specs.Contents.{PointContents}
 use Rattle.task.specs.Meaning.{all_contents, point_contents}
@@ -41,15 +41,6 @@ settle_one-conflicts-requires c =
     let few = (kept t c.args.task.now.draft.legal).points_few in
     record { room = omega (arith, n, c.len.ensures, c.if-len-n.false); noted = omega (arith, few, c.access_notes-notes.ensures.room) }
 
-pub use_notes-uses-requires : goal.use_notes-uses-requires
-use_notes-uses-requires c =
-    let t = contents c.args.task.now in
-    let n = many c.points-n.result.now t.points c.points-n.ensures in
-    let few = (kept t c.args.task.now.draft.legal).points_few in
-    let kind = conflicts_meaning c.of.result.blocks c.of.result.sets in
-    let room = solved_room kind Forward t c.access_notes-notes.result c.args.self.now.conflicts.rows.now c.settle_one-conflicts.new.table.rows.now c.settle_one-conflicts.result c.settle_one-conflicts.ensures.solved in
-    record { few = omega (arith, n, few); filled = omega (arith, n, room) }
-
 pub settle_one-widest-requires : goal.settle_one-widest-requires
 settle_one-widest-requires c =
     let t = contents c.args.task.now in
@@ -68,7 +59,9 @@ returns c =
     let here = c.args.self.now in
     let settled = conflicts_settle t notes e c.of.result.blocks c.of.ensures.blocks Forward here.conflicts.rows.now c.settle_one-conflicts.new.table.rows.now c.settle_one-conflicts.result c.of.result.sets c.of.ensures.sets c.settle_one-conflicts.ensures.solved in
     let uses : take (length t.points) c.use_notes-uses.result ≡ use_notes (take (length t.points) c.settle_one-conflicts.new.table.rows.now) (take (length t.points) notes) =
-    subst (λ (k : ℕ). take k c.use_notes-uses.result ≡ use_notes (take k c.settle_one-conflicts.new.table.rows.now) (take k notes)) n c.use_notes-uses.ensures.notes in
+    (let points = (kept t c.args.task.now.draft.legal).points_few in
+    let room = solved_room (conflicts_meaning c.of.result.blocks c.of.result.sets) Forward t notes here.conflicts.rows.now c.settle_one-conflicts.new.table.rows.now c.settle_one-conflicts.result c.settle_one-conflicts.ensures.solved in
+    c.use_notes-uses.ensures.notes (length t.points) points (omega (arith, room))) in
     record {
       answer = record {
         ages = ages_settle t notes e c.of-kind.result.blocks kind.blocks Forward here.ages.rows.now c.settle_one-ages.new.table.rows.now c.settle_one-ages.result c.of-kind.result.ways c.of-kind.result.sets kind.ways kind.sets c.settle_one-ages.ensures.solved;
