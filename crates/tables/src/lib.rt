@@ -1,10 +1,12 @@
 // The four settled tables of a task, and the numbers that they give each point.
 #![tactic(auto)]
 
+mod memory;
 mod methods;
 mod notes;
 mod settle;
 
+pub use memory::TableMemory;
 use conflicts::Conflicts;
 use fixpoint::table::Table;
 use rowkinds::ages::Ages;
