@@ -1,4 +1,4 @@
-mod Sizes
+pub mod Sizes
 mod Tables
 mod Runs
 mod Examples
