@@ -4,13 +4,13 @@
 mod tag;
 
 ghost use Rattle.std.specs.Prelude.{◌≡◌};
-ghost use Rattle.fields.specs.Layout.{allows as allows_length, contents_of, field_at, tag_of};
-ghost use Rattle.fields.specs.Said.{field_contents, number, said};
+ghost use Rattle.fields.specs.Layout.{field_at};
+ghost use Rattle.fields.specs.Said.{number, said};
 
 use tag::Tag;
 
 // A field of a task file. Its body is a part of the file.
-#[derive(Clone, Copy)]
+#[derive(Clone, Copy, Debug)]
 pub enum Field<'a> {
     Header(&'a [u8]),
     Point(&'a [u8]),
@@ -19,14 +19,14 @@ pub enum Field<'a> {
 }
 
 // A field with the place where it begins, and the bytes that follow it.
-#[derive(Clone, Copy)]
+#[derive(Clone, Copy, Debug)]
 pub struct Taken<'a> {
     pub field: Field<'a>,
     pub place: usize,
     pub after: &'a [u8],
 }
 
-#[derive(Clone, Copy)]
+#[derive(Clone, Copy, Debug, PartialEq, Eq)]
 pub enum FieldCause {
     // the input ends in the field, or before the end field
     Cut = 1,
@@ -37,7 +37,7 @@ pub enum FieldCause {
 }
 
 // Why there is no field, and the place where it should begin.
-#[derive(Clone, Copy)]
+#[derive(Clone, Copy, Debug, PartialEq, Eq)]
 pub struct FieldFault {
     pub cause: FieldCause,
     pub place: usize,
@@ -55,69 +55,19 @@ impl FieldCause {
 pub fn take_field(bytes: &[u8], place: usize) -> Result<Taken<'_>, FieldFault>
     ensures { said result ≡ field_at place bytes.now }
 {
+    let fault = |cause| FieldFault { cause, place };
     let [tag, hi, lo, rest @ ..] = bytes else {
-        return Err(FieldFault {
-            cause: FieldCause::Cut,
-            place,
-        });
+        return Err(fault(FieldCause::Cut));
     };
-    let Some(tag) = tag_from(*tag) else {
-        return Err(FieldFault {
-            cause: FieldCause::Tag,
-            place,
-        });
-    };
+    let tag = Tag::try_from(*tag).map_err(fault)?;
     let length = u16::from_be_bytes([*hi, *lo]) as usize;
-    if !allows(tag, length) {
-        return Err(FieldFault {
-            cause: FieldCause::Length,
-            place,
-        });
+    if !tag.allows(length) {
+        return Err(fault(FieldCause::Length));
     }
-    if rest.len() < length {
-        return Err(FieldFault {
-            cause: FieldCause::Cut,
-            place,
-        });
-    }
-    let (body, after) = rest.split_at(length);
+    let (body, after) = rest.split_at_checked(length).ok_or(fault(FieldCause::Cut))?;
     Ok(Taken {
-        field: field_of(tag, body),
+        field: tag.field(body),
         place,
         after,
     })
-}
-
-fn tag_from(byte: u8) -> Option<Tag>
-    ensures { result ≡ tag_of byte }
-{
-    match byte {
-        1 => Some(Tag::Header),
-        2 => Some(Tag::Point),
-        3 => Some(Tag::Evicting),
-        4 => Some(Tag::End),
-        _ => None,
-    }
-}
-
-fn allows(tag: Tag, length: usize) -> bool
-    ensures { result ≡ allows_length tag length }
-{
-    match tag {
-        Tag::Header => length == 6,
-        Tag::Point => 1 <= length && length <= 9,
-        Tag::Evicting => length == 4,
-        Tag::End => length == 0,
-    }
-}
-
-fn field_of(tag: Tag, body: &[u8]) -> Field<'_>
-    ensures { field_contents result ≡ contents_of tag body.now }
-{
-    match tag {
-        Tag::Header => Field::Header(body),
-        Tag::Point => Field::Point(body),
-        Tag::Evicting => Field::Evicting(body),
-        Tag::End => Field::End,
-    }
 }

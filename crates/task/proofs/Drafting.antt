@@ -1,8 +1,8 @@
 -- A draft stays legal as points and evicting blocks are added. Assumes nothing.
-use Rattle.std.proofs.Common.{◌≡◌, ℕ, ◌<◌, ◌≤◌, Bool, true, false, leb, List, [], ◌∷◌, ◌++◌, length, refl, ap, ◌∙◌, arith}
+use Rattle.std.proofs.Common.{◌≡◌, ◌<◌, ◌≤◌, Bool, true, ◌&&◌, leb, List, [], ◌∷◌, ◌++◌, length, refl, ap, ◌∙◌, arith}
 use Rattle.std.proofs.lemmas.List.{length_push}
-use Rattle.std.proofs.lemmas.Bool.{and_parts, and_from, and_left, and_right, leb-true, le-leb, lt-leb}
-use Rattle.task.specs.Contents.{PointContents, TaskContents, add_point, add_evicting}
+use Rattle.std.proofs.lemmas.Bool.{and_parts, and_from, leb-true, le-leb}
+use Rattle.task.specs.Contents.{PointContents, TaskContents, add_point}
 use Rattle.task.specs.Blocks.{noted, distinct_blocks}
 use Rattle.task.specs.Legal.{is_block, legal_parameters, legal_point, few_points, legal_evicting, few_evicting, legal_draft}
 use Rattle.task.specs.Lists.{every, rising}
@@ -51,26 +51,13 @@ point_added t p h l f =
     let k = kept t h in
     and_from _ _ k.parameters (and_from _ _ (and_from _ _ (every_push legal_point t.points p k.points l) f) (and_from _ _ k.evicting k.few_others))
 
-pub evicting_added : (t : TaskContents) (b : ℕ) → legal_draft t ≡ true → legal_evicting (t.evicting ++ (b ∷ [])) ≡ true → few_evicting (t.evicting ++ (b ∷ [])) ≡ true → legal_draft (add_evicting t b) ≡ true
-evicting_added t b h l f =
-    let k = kept t h in
-    and_from _ _ k.parameters (and_from _ _ (and_from _ _ k.points k.few) (and_from _ _ l f))
-
 -- the three answers to one point more
 module _ (ps : List PointContents) (p : PointContents) where
   noted_length : length (distinct_blocks (ps ++ (p ∷ []))) ≡ length (noted (distinct_blocks ps) p.access)
   noted_length = ap length (noted_push [] ps p)
 
-  pub points_full : length ps ≡ 128 → few_points (ps ++ (p ∷ [])) ≡ false
-  points_full h = let l = length_push ps p in and_left _ _ (lt-leb (length (ps ++ (p ∷ []))) 128 (omega arith))
-
-  pub blocks_full : leb (length (noted (distinct_blocks ps) p.access)) 64 ≡ false → few_points (ps ++ (p ∷ [])) ≡ false
-  blocks_full h = and_right _ _ (ap (λ n. leb n 64) noted_length ∙ h)
-
-  pub room_left : length ps < 128 → leb (length (noted (distinct_blocks ps) p.access)) 64 ≡ true → few_points (ps ++ (p ∷ [])) ≡ true
-  room_left h k = let l = length_push ps p in and_from _ _ (le-leb (length (ps ++ (p ∷ []))) 128 (omega arith)) (ap (λ n. leb n 64) noted_length ∙ k)
-
--- a block at the end of legal evicting blocks
-pub every_last : {X : Type 0} (good : X → Bool) (xs : List X) (x : X) → good x ≡ false → every good (xs ++ (x ∷ [])) ≡ false
-every_last good [] x h = and_left _ _ h
-every_last good (y ∷ xs) x h = and_right _ _ (every_last good xs x h)
+  -- with room for the point, its block decides
+  pub few_by_blocks : length ps < 128 → few_points (ps ++ (p ∷ [])) ≡ leb (length (noted (distinct_blocks ps) p.access)) 64
+  few_by_blocks h =
+      let l = length_push ps p in
+      ap (λ (v : Bool). v && leb (length (distinct_blocks (ps ++ (p ∷ [])))) 64) (le-leb (length (ps ++ (p ∷ []))) 128 (omega arith)) ∙ ap (λ n. leb n 64) noted_length

@@ -1,5 +1,5 @@
+pub mod Chains
 pub mod Rising
 pub mod Noting
 pub mod Drafting
 pub mod Blocks
-pub mod Searching

@@ -1,7 +1,8 @@
 -- How many bytes the fields of points have. Assumes nothing.
-use Rattle.std.proofs.Common.{◌≡◌, ℕ, ◌+◌, ◌*◌, ◌<◌, ◌≤◌, List, [], ◌∷◌, ◌++◌, map, length, get_or, take, drop, Some, None, Option, refl, ap, ◌∙◌, arith, length-append, length-take}
-use Rattle.std.specs.List.{flat_map}
-use Rattle.std.proofs.lemmas.List.{at_drop_more, take-map}
+use Rattle.std.proofs.Common.{◌≡◌, ℕ, ◌+◌, ◌*◌, ◌≤◌, List, [], ◌∷◌, ◌++◌, map, length, take, Some, None, Option, refl, sym, ap, ◌∙◌, arith, length-append, length-take}
+use Rattle.std.specs.List.{flat_map, sum_by}
+use Rattle.std.proofs.lemmas.List.Sums.{sum_by-cons}
+use Rattle.std.proofs.lemmas.List.{take-map}
 use Rattle.fields.specs.Layout.{field_bytes}
 use Rattle.task.specs.Contents.{PointContents}
 use Rattle.task.specs.Meaning.{point_contents, all_contents}
@@ -45,6 +46,8 @@ points_small (p ∷ ps) =
     let e = length-append (point_bytes p) (points_bytes ps) in
     omega arith
 
--- one point on
-pub left_more : (ps : List Point) (i : ℕ) (d : Point) → i < length ps → length (points_bytes (drop i ps)) ≡ length (point_bytes (get_or ps i d)) + length (points_bytes (drop (i + 1) ps))
-left_more ps i d h = ap length (at_drop_more points_bytes ps i d h) ∙ length-append (point_bytes (get_or ps i d)) (points_bytes (drop (i + 1) ps))
+-- the bytes of points, added up
+pub sizes_summed : (ps : List Point) → sum_by (λ p. length (point_bytes p)) ps ≡ length (points_bytes ps)
+sizes_summed [] = refl
+sizes_summed (p ∷ ps) =
+    sum_by-cons (λ q. length (point_bytes q)) p ps ∙ ap (λ n. length (point_bytes p) + n) (sizes_summed ps) ∙ sym (length-append (point_bytes p) (points_bytes ps))

@@ -1,5 +1,5 @@
 -- What a draft answers, said of the task so far. Assumes nothing.
-use Rattle.std.proofs.Common.{◌≡◌, ℕ, ◌≤◌, Bool, true, false, cond, ◌&&◌, eqb, leb, List, [], ◌∷◌, length, get_or, drop, Some, None, Ok, Option, sym, refl, ap, ◌∙◌, subst, arith}
+use Rattle.std.proofs.Common.{◌≡◌, ℕ, ◌≤◌, Bool, true, false, cond, ◌&&◌, eqb, leb, List, [], ◌∷◌, length, get_or, drop, Some, None, Ok, Err, Result, Option, sym, refl, ap, ◌∙◌, subst, arith}
 use Rattle.std.proofs.lemmas.List.{length-map}
 use Rattle.std.proofs.lemmas.Bool.{and_from, eq-eqb, ne_eqb, le-leb, cond-true, cond-false, cond_both}
 use Rattle.fields.specs.Layout.{FieldContents, header, point, evicting, end}
@@ -12,11 +12,14 @@ use Rattle.task.specs.declared.faults.AddFault.{AddFault}
 use Rattle.task.specs.declared.faults.AddFault.TheVariants as adds
 use Rattle.taskformat.specs.Reading.{Step, taken, ended, wrong, taken_if, point_step, is_empty, step, number_at, if_legal, point_of}
 use Rattle.taskfile.specs.Numbers.{task_number}
-use Rattle.taskfile.specs.Answers.{step_said, KeptUnlessTaken}
+use Rattle.taskfile.specs.Answers.{step_said, KeptUnlessTaken, Stepped}
 use Rattle.taskfile.specs.declared.step.Progress.{Progress}
 use Rattle.taskfile.specs.declared.step.Progress.TheVariants as progress
 use Rattle.taskfile.specs.declared.fault.TaskCause.{TaskCause}
 use Rattle.taskfile.specs.declared.fault.TaskCause.TheVariants as causes
+use Rattle.taskfile.specs.declared.fault.TaskFault.{TaskFault}
+use Rattle.taskfile.specs.declared.fault.TaskFault.TheVariants as faults
+use Rattle.std.specs.Result.{MatchResult, IsErrAnd}
 
 pub empty_by_length : {X : Type 0} (xs : List X) → is_empty xs ≡ eqb (length xs) 0
 empty_by_length [] = refl
@@ -107,3 +110,19 @@ ended_said progress.Ended t u s e h k = (h, k)
 pub taken_said : (p : Progress) (u : TaskContents) (s : Step) → p ≡ progress.Taken → step_said (Ok p) u ≡ s → taken u ≡ s
 taken_said progress.Taken u s e h = h
 taken_said progress.Ended u s e h = absurd (let z : ◌≡◌ {A = ℕ} 0 1 = cc in omega arith)
+
+pub as_stepped : (t : TaskContents) (f : FieldContents) (u : TaskContents) (q : Result Progress TaskCause) {r : Result Progress TaskCause} → r ≡ q → Stepped t f r u → Stepped t f q u
+as_stepped t f u q e s = subst (λ (w : Result Progress TaskCause). Stepped t f w u) e s
+
+-- what the answer on a field is, where the answer that goes on is known: the cause of a refusal comes with the place
+module _ {Q : TaskCause → TaskFault → Type 0} (place : ℕ) (says : (cause : TaskCause) (f : TaskFault) → Q cause f → f ≡ faults.Task cause place) where
+  pub went_on : (r : Result Progress TaskCause) (m : Result Progress TaskFault) (p : Progress) → MatchResult r (λ x. m ≡ Ok x) (λ cause. IsErrAnd m (Q cause)) → m ≡ Ok p → r ≡ Ok p
+  went_on (Ok x) m p h e = let same : x ≡ p = cc in cc
+  went_on (Err cause) (Ok x) p h e = absurd h
+  went_on (Err cause) (Err f) p h e = absurd (let z : ◌≡◌ {A = ℕ} 0 1 = cc in omega arith)
+
+  pub stopped : (r : Result Progress TaskCause) (m : Result Progress TaskFault) (f : TaskFault) → MatchResult r (λ x. m ≡ Ok x) (λ cause. IsErrAnd m (Q cause)) → m ≡ Err f
+      → (cause : TaskCause) × (r ≡ Err cause) × (f ≡ faults.Task cause place)
+  stopped (Ok x) m f h e = absurd (let z : ◌≡◌ {A = ℕ} 0 1 = cc in omega arith)
+  stopped (Err cause) (Ok x) f h e = absurd h
+  stopped (Err cause) (Err g) f h e = (cause, refl, let same : g ≡ f = cc in sym same ∙ says cause g h)

@@ -1,6 +1,6 @@
 -- What the answers of the reader and the writer say: each case with its number and values.
 use Rattle.std.specs.Prelude.{◌≡◌, ℕ, ◌<◌, Bool, true, false, List, [], ◌++◌, length, drop, Ok, Err, Result, slice_index}
-use Rattle.fields.specs.Layout.{header, point, evicting, end, FieldAt, field, fault, field_at}
+use Rattle.fields.specs.Layout.{FieldContents, header, point, evicting, end, FieldAt, field, fault, field_at}
 use Rattle.fields.specs.Said.{number}
 use Rattle.task.specs.declared.draft.TaskDraft.{TaskDraft}
 use Rattle.task.specs.declared.task.Task.{Task}
@@ -8,7 +8,7 @@ use Rattle.task.specs.Contents.{TaskContents}
 use Rattle.task.specs.Drafts.{draft_contents}
 use Rattle.task.specs.Legal.{legal_parameters}
 use Rattle.task.specs.Tasks.{contents}
-use Rattle.taskformat.specs.Reading.{fields_layer, task_layer, Outcome, accepted, refused, Step, taken, ended, wrong, header_of, number_at}
+use Rattle.taskformat.specs.Reading.{fields_layer, task_layer, Outcome, accepted, refused, Step, taken, ended, wrong, step, header_of, number_at}
 use Rattle.taskfile.specs.declared.fault.TaskCause.{TaskCause}
 use Rattle.taskfile.specs.declared.fault.TaskFault.{TaskFault}
 use Rattle.taskfile.specs.declared.fault.TaskFault.TheVariants as faults
@@ -53,6 +53,11 @@ abbrev pub KeptUnlessTaken : Result Progress TaskCause → TaskContents → Task
 KeptUnlessTaken (Ok progress.Taken) t u = Unit {0}
 KeptUnlessTaken (Ok progress.Ended) t u = u ≡ t
 KeptUnlessTaken (Err cause) t u = u ≡ t
+
+-- what one field made of the task so far: t became u
+pub record Stepped (t : TaskContents) (f : FieldContents) (r : Result Progress TaskCause) (u : TaskContents) : Type 0 where
+  pub step : step_said r u ≡ step t f
+  pub kept : KeptUnlessTaken r t u
 
 -- n bytes were written to the front of a buffer, whose rest stays
 abbrev pub Filled : List ℕ → List ℕ → List ℕ → ℕ → Type 0

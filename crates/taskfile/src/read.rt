@@ -13,7 +13,7 @@ use crate::step::{Progress, step};
 use fields::{Field, take_field};
 use std::alloc::Global;
 use task::draft::TaskDraft;
-use task::faults::{StartFault, UnfinishedCause};
+use task::faults::UnfinishedCause;
 use task::parameters::CacheParameters;
 use task::task::Task;
 
@@ -38,10 +38,9 @@ fn read_fields(heap: Global, file: &[u8]) -> Result<Task, TaskFault>
     let mut place = HEADER_SIZE;
     'fields: loop {
         let taken = take_field(rest, place)?;
-        let progress = match step(&mut draft, taken.field) {
-            Ok(progress) => progress,
-            Err(cause) => return Err(TaskFault::Task(cause, place)),
-        };
+        let progress = step(&mut draft, taken.field).map_err(|cause| TaskFault::Task(
+            cause, place,
+        ))?;
         if let Progress::Ended = progress {
             return close(draft, taken.after, place + HEAD_SIZE);
         }
@@ -59,18 +58,14 @@ fn begin(heap: Global, body: &[u8]) -> Result<TaskDraft, TaskFault>
         unreachable()
     };
     let reload = u32::from_be_bytes([*a, *b, *c, *d]);
-    match TaskDraft::new(
+    Ok(TaskDraft::new(
         heap,
         CacheParameters {
             sets: *sets,
             ways: *ways,
             reload,
         },
-    ) {
-        Ok(draft) => Ok(draft),
-        Err(StartFault::Value) => Err(TaskFault::Task(TaskCause::Value, 0)),
-        Err(StartFault::Memory) => Err(TaskFault::Memory),
-    }
+    )?)
 }
 
 // The task of a file whose end field was read; `place` follows it.

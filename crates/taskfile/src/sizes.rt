@@ -14,10 +14,7 @@ pub(crate) const HEADER_SIZE: usize = HEAD_SIZE + 6;
 pub(crate) fn point_size(point: &Point) -> usize
     ensures { result ≡ length (field_bytes (point_field (point_contents point.now))) }
 {
-    let access = match point.access() {
-        Some(_) => 5,
-        None => 1,
-    };
+    let access = point.access().map_or(1, |_| 5);
     HEAD_SIZE + access + point.successors().len()
 }
 
@@ -27,10 +24,5 @@ pub(crate) fn point_place(points: &[Point], k: usize) -> usize
     requires few { length points.now ≤ 128 }
     ensures { result ≡ point_place (all_contents points.now) k }
 {
-    let before = &points[0..k];
-    let mut place = HEADER_SIZE;
-    for point in before {
-        place += point_size(point);
-    }
-    place
+    HEADER_SIZE + points[..k].iter().map(point_size).sum::<usize>()
 }

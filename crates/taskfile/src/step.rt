@@ -5,8 +5,8 @@ ghost use Rattle.fields.specs.Layout.{evicting as evicting_field, point as point
 ghost use Rattle.fields.specs.Said.{field_contents};
 ghost use Rattle.task.specs.Drafts.{draft_contents};
 ghost use Rattle.task.specs.Meaning.{point_contents};
-ghost use Rattle.taskformat.specs.Reading.{point_of, step as step_of};
-ghost use Rattle.taskfile.specs.Answers.{KeptUnlessTaken, step_said};
+ghost use Rattle.taskformat.specs.Reading.{point_of};
+ghost use Rattle.taskfile.specs.Answers.{Stepped};
 
 use crate::fault::TaskCause;
 use fields::Field;
@@ -14,7 +14,7 @@ use task::draft::TaskDraft;
 use task::point::Point;
 
 // What a field did.
-#[derive(Clone, Copy)]
+#[derive(Clone, Copy, Debug, PartialEq, Eq)]
 pub enum Progress {
     Taken,
     Ended,
@@ -22,8 +22,7 @@ pub enum Progress {
 
 pub(crate) fn step(draft: &mut TaskDraft, field: Field<'_>) -> Result<Progress, TaskCause>
     requires { sized (field_contents field) ≡ true }
-    ensures step { step_said result (draft_contents draft.new) ≡ step_of (draft_contents draft.old) (field_contents field.entry) }
-    ensures kept { KeptUnlessTaken result (draft_contents draft.old) (draft_contents draft.new) }
+    ensures { Stepped (draft_contents draft.old) (field_contents field.entry) result (draft_contents draft.new) }
 {
     match field {
         Field::Header(_) => Err(TaskCause::Order),
@@ -40,23 +39,18 @@ pub(crate) fn step(draft: &mut TaskDraft, field: Field<'_>) -> Result<Progress, 
 
 fn step_point(draft: &mut TaskDraft, body: &[u8]) -> Result<Progress, TaskCause>
     requires { sized (point_field body.now) ≡ true }
-    ensures step { step_said result (draft_contents draft.new) ≡ step_of (draft_contents draft.old) (point_field body.now) }
-    ensures kept { KeptUnlessTaken result (draft_contents draft.old) (draft_contents draft.new) }
+    ensures { Stepped (draft_contents draft.old) (point_field body.now) result (draft_contents draft.new) }
 {
     if !draft.evicting().is_empty() {
         return Err(TaskCause::Order);
     }
-    let Some(point) = point_from(body) else {
-        return Err(TaskCause::Value);
-    };
-    draft.add_point(point)?;
+    draft.add_point(point_from(body).ok_or(TaskCause::Value)?)?;
     Ok(Progress::Taken)
 }
 
 fn step_evicting(draft: &mut TaskDraft, body: &[u8]) -> Result<Progress, TaskCause>
     requires { sized (evicting_field body.now) ≡ true }
-    ensures step { step_said result (draft_contents draft.new) ≡ step_of (draft_contents draft.old) (evicting_field body.now) }
-    ensures kept { KeptUnlessTaken result (draft_contents draft.old) (draft_contents draft.new) }
+    ensures { Stepped (draft_contents draft.old) (evicting_field body.now) result (draft_contents draft.new) }
 {
     if draft.points().is_empty() {
         return Err(TaskCause::Order);

@@ -1,4 +1,4 @@
-ghost use Rattle.std.specs.Prelude.{◌≡◌, ◌+◌, ◌*◌, ◌≤◌, ◌∷◌, ◌++◌, length, take, IfOk};
+ghost use Rattle.std.specs.Prelude.{◌≡◌, ℕ, List, ◌+◌, ◌*◌, ◌≤◌, ◌∷◌, ◌++◌, length, take, IfOk};
 ghost use Rattle.std.specs.List.{flat_map};
 ghost use Rattle.fields.specs.Layout.{field_bytes, header as header_field};
 ghost use Rattle.task.specs.Meaning.{all_contents, point_contents};
@@ -39,7 +39,7 @@ fn put_fields(task: &Task, out: &mut [u8]) -> usize
     requires { length (flat_map field_bytes (fields_after_header (contents task.now))) ≤ length out.old }
     ensures { Filled (flat_map field_bytes (fields_after_header (contents task.now))) out.old out.new result }
 {
-    let at = put_points(task.points(), out);
+    let at = put_all(task.points(), out);
     at + put_last(task.evicting(), &mut out[at..])
 }
 
@@ -48,7 +48,7 @@ fn put_last(blocks: &[u32], out: &mut [u8]) -> usize
     requires { length (flat_map field_bytes (last_fields blocks.now)) ≤ length out.old }
     ensures { Filled (flat_map field_bytes (last_fields blocks.now)) out.old out.new result }
 {
-    let at = put_evicting(blocks, out);
+    let at = put_all(blocks, out);
     at + put(&[4, 0, 0], &mut out[at..])
 }
 
@@ -60,24 +60,45 @@ fn put_header(cache: CacheParameters, out: &mut [u8]) -> usize
     put(&[1, 0, 6, cache.sets, cache.ways, a, b, c, d], out)
 }
 
-fn put_points(points: &[Point], out: &mut [u8]) -> usize
-    requires { length (flat_map (λ p. field_bytes (point_field (point_contents p))) points.now) ≤ length out.old }
-    ensures { Filled (flat_map (λ p. field_bytes (point_field (point_contents p))) points.now) out.old out.new result }
+// What stands in a file as a field.
+trait AsField {
+    ghost bytes: { Self → List ℕ };
+
+    fn put_field(&self, out: &mut [u8]) -> usize
+        requires { length (bytes self.now) ≤ length out.old }
+        ensures { Filled (bytes self.now) out.old out.new result };
+}
+
+// One field after another. The buffer's rest is kept by an index, since the fields differ in length.
+fn put_all<T: AsField>(items: &[T], out: &mut [u8]) -> usize
+    requires { length (flat_map T.bytes items.now) ≤ length out.old }
+    ensures { Filled (flat_map T.bytes items.now) out.old out.new result }
 {
     let mut at = 0;
-    for point in points {
-        at += put_point(point, &mut out[at..]);
+    for item in items {
+        at += item.put_field(&mut out[at..]);
     }
     at
 }
 
-fn put_point(point: &Point, out: &mut [u8]) -> usize
-    requires { length (field_bytes (point_field (point_contents point.now))) ≤ length out.old }
-    ensures { Filled (field_bytes (point_field (point_contents point.now))) out.old out.new result }
-{
-    let successors = point.successors();
-    let at = put_access(point.access(), successors.len() as u8, out);
-    at + put(successors, &mut out[at..])
+impl AsField for Point {
+    ghost bytes = { λ p. field_bytes (point_field (point_contents p)) };
+
+    fn put_field(&self, out: &mut [u8]) -> usize {
+        let successors = self.successors();
+        let at = put_access(self.access(), successors.len() as u8, out);
+        at + put(successors, &mut out[at..])
+    }
+}
+
+// A number is an evicting block.
+impl AsField for u32 {
+    ghost bytes = { λ b. field_bytes (evicting_field b) };
+
+    fn put_field(&self, out: &mut [u8]) -> usize {
+        let [a, b, c, d] = self.to_be_bytes();
+        put(&[3, 0, 4, a, b, c, d], out)
+    }
 }
 
 // A point's field up to its successors.
@@ -95,29 +116,10 @@ fn put_access(access: Option<u32>, successors: u8, out: &mut [u8]) -> usize
     }
 }
 
-fn put_evicting(blocks: &[u32], out: &mut [u8]) -> usize
-    requires { length (flat_map (λ b. field_bytes (evicting_field b)) blocks.now) ≤ length out.old }
-    ensures { Filled (flat_map (λ b. field_bytes (evicting_field b)) blocks.now) out.old out.new result }
-{
-    let mut at = 0;
-    for block in blocks {
-        at += put_block(*block, &mut out[at..]);
-    }
-    at
-}
-
-fn put_block(block: u32, out: &mut [u8]) -> usize
-    requires { 7 ≤ length out.old }
-    ensures { Filled (field_bytes (evicting_field block)) out.old out.new result }
-{
-    let [a, b, c, d] = block.to_be_bytes();
-    put(&[3, 0, 4, a, b, c, d], out)
-}
-
 fn put(bytes: &[u8], out: &mut [u8]) -> usize
     requires { length bytes.now ≤ length out.old }
     ensures { Filled bytes.now out.old out.new result }
 {
-    out[0..bytes.len()].copy_from_slice(bytes);
+    out[..bytes.len()].copy_from_slice(bytes);
     bytes.len()
 }

@@ -1,8 +1,8 @@
-ghost use Rattle.std.specs.Prelude.{◌≡◌, ◌≤◌, Bool, true, List, [], ◌∷◌, ◌++◌, length, if◌then◌else◌, vec_len, vec_capacity, nat_le};
-ghost use Rattle.task.specs.Adding.{changed_if, evicting_verdict, point_verdict};
+ghost use Rattle.std.specs.Prelude.{◌≡◌, ◌≤◌, Bool, true, List, [], ◌∷◌, ◌++◌, length, if◌then◌else◌, vec_len, vec_capacity, nat_le, IfOk, OnOk, OnErr};
+ghost use Rattle.task.specs.Adding.{changed_if, evicting_verdict, fits, point_verdict, too_many};
 ghost use Rattle.task.specs.Answers.{Starts, verdict_said};
 ghost use Rattle.task.specs.Blocks.{noted};
-ghost use Rattle.task.specs.Contents.{add_evicting, add_point};
+ghost use Rattle.task.specs.Contents.{add_evicting, add_point, task_with};
 ghost use Rattle.task.specs.Drafts.{draft_contents};
 ghost use Rattle.task.specs.Legal.{legal_evicting, legal_parameters};
 ghost use Rattle.task.specs.Lists.{rising};
@@ -12,7 +12,7 @@ use crate::draft::TaskDraft;
 use crate::faults::{AddFault, StartFault};
 use crate::parameters::CacheParameters;
 use crate::point::Point;
-use std::alloc::Global;
+use std::alloc::{AllocError, Global};
 
 const MAX_POINTS: usize = 128;
 
@@ -28,20 +28,19 @@ impl TaskDraft {
         if !is_legal(cache) {
             return Err(StartFault::Value);
         }
-        let Ok(points) = Vec::with_capacity(heap, MAX_POINTS) else {
-            return Err(StartFault::Memory);
-        };
-        let Ok(blocks) = Vec::with_capacity(heap, MAX_BLOCKS) else {
-            return Err(StartFault::Memory);
-        };
-        let Ok(evicting) = Vec::with_capacity(heap, MAX_EVICTING) else {
-            return Err(StartFault::Memory);
-        };
+        Ok(TaskDraft::reserve(heap, cache)?)
+    }
+
+    // A draft on a cache that is known to be legal.
+    pub(crate) fn reserve(heap: Global, cache: CacheParameters) -> Result<TaskDraft, AllocError>
+        requires { legal_parameters cache.sets cache.ways cache.reload ≡ true }
+        ensures { IfOk result (λ d. draft_contents d ≡ task_with cache.sets cache.ways cache.reload [] []) }
+    {
         Ok(TaskDraft {
             cache,
-            points,
-            blocks,
-            evicting,
+            points: Vec::with_capacity(heap, MAX_POINTS)?,
+            blocks: Vec::with_capacity(heap, MAX_BLOCKS)?,
+            evicting: Vec::with_capacity(heap, MAX_EVICTING)?,
         })
     }
 
@@ -53,9 +52,7 @@ impl TaskDraft {
         if self.points.len() == MAX_POINTS {
             return Err(AddFault::Number);
         }
-        if !note_access(&mut self.blocks, point.access()) {
-            return Err(AddFault::Number);
-        }
+        note_access(&mut self.blocks, point.access())?;
         self.points.push_reserved(point);
         Ok(())
     }
@@ -106,43 +103,38 @@ fn is_legal(cache: CacheParameters) -> bool
     matches!(cache.sets, 1..=64) && matches!(cache.ways, 1..=8) && cache.reload <= 1_000_000
 }
 
-// Adds the block of an access where it is new. False where there is no room for it.
-fn note_access(blocks: &mut Vec<u32>, access: Option<u32>) -> bool
+// Adds the block of an access where it is new.
+fn note_access(blocks: &mut Vec<u32>, access: Option<u32>) -> Result<(), AddFault>
     requires few { vec_len blocks.old ≤ 64 }
     requires room { 64 ≤ vec_capacity blocks.old }
-    ensures test { result ≡ nat_le (length (noted blocks.old.items access)) 64 }
-    ensures after { blocks.new.items ≡ (if result then noted blocks.old.items access else blocks.old.items) }
+    ensures verdict { verdict_said result ≡ (if nat_le (length (noted blocks.old.items access)) 64 then fits else too_many) }
+    ensures ok { OnOk result (blocks.new.items ≡ noted blocks.old.items access) }
+    ensures err { OnErr result (blocks.new.items ≡ blocks.old.items) }
     ensures capacity { vec_capacity blocks.new ≡ vec_capacity blocks.old }
 {
     let Some(block) = access else {
-        return true;
+        return Ok(());
     };
     if blocks.contains(&block) {
-        return true;
+        return Ok(());
     }
     if blocks.len() == MAX_BLOCKS {
-        return false;
+        return Err(AddFault::Number);
     }
     blocks.push_reserved(block);
-    true
+    Ok(())
 }
 
 // Legal evicting blocks stay legal with the block at their end.
 fn may_follow(evicting: &[u32], block: u32) -> bool
     ensures { legal_evicting evicting.now ≡ true → result ≡ legal_evicting (evicting.now ++ (block ∷ [])) }
 {
-    if block > Point::MAX_BLOCK {
-        return false;
-    }
-    is_above_last(evicting, block)
+    block <= Point::MAX_BLOCK && is_above_last(evicting, block)
 }
 
 // A rising list goes on to rise with the block at its end.
 fn is_above_last(rises: &[u32], block: u32) -> bool
     ensures { rising rises.now ≡ true → result ≡ rising (rises.now ++ (block ∷ [])) }
 {
-    match rises.last() {
-        Some(last) => *last < block,
-        None => true,
-    }
+    rises.last().is_none_or(|last| *last < block)
 }

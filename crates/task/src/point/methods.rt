@@ -1,5 +1,6 @@
 ghost use Rattle.std.specs.Prelude.{◌≡◌, Bool, if◌then◌else◌, Some, None};
 ghost use Rattle.std.specs.Option.{option_map};
+ghost use Rattle.recency.specs.Blocks.{has};
 ghost use Rattle.task.specs.Contents.{point_with};
 ghost use Rattle.task.specs.Legal.{legal_access, legal_point};
 ghost use Rattle.task.specs.Lists.{rising};
@@ -40,25 +41,24 @@ impl Point {
     {
         &self.successors[0..self.count as usize]
     }
+
+    // Whether point `to` may come next.
+    pub fn leads_to(&self, to: usize) -> bool
+        ensures { result ≡ has to (point_contents self.now).successors }
+    {
+        self.successors().iter().any(|s| *s as usize == to)
+    }
 }
 
 fn is_block(access: Option<u32>) -> bool
     ensures { result ≡ legal_access access }
 {
-    match access {
-        Some(block) => block <= Point::MAX_BLOCK,
-        None => true,
-    }
+    access.is_none_or(|block| block <= Point::MAX_BLOCK)
 }
 
 // Each is below the next.
 fn is_rising(numbers: &[u8]) -> bool
     ensures { result ≡ rising numbers.now }
 {
-    for i in 1..numbers.len() {
-        if numbers[i - 1] >= numbers[i] {
-            return false;
-        }
-    }
-    true
+    numbers.is_sorted_by(|one, next| one < next)
 }

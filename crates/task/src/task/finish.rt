@@ -35,22 +35,13 @@ impl TaskDraft {
 fn lowest_open(points: &[Point]) -> Option<usize>
     ensures { result ≡ first_open (all_contents points.now) }
 {
-    for (k, point) in points.iter().enumerate() {
-        if !is_closed(point, points.len()) {
-            return Some(k);
-        }
-    }
-    None
+    points
+        .iter()
+        .position(|point| !is_closed(point, points.len()))
 }
 
 fn is_closed(point: &Point, count: usize) -> bool
     ensures { result ≡ closed_point count (point_contents point.now) }
 {
-    let successors = point.successors();
-    for s in successors {
-        if *s as usize >= count {
-            return false;
-        }
-    }
-    true
+    point.successors().iter().all(|s| (*s as usize) < count)
 }

@@ -18,26 +18,16 @@ impl Task {
     pub fn blank(heap: Global) -> Result<Task, AllocError>
         ensures { IfOk result (λ t. contents t ≡ blank_task) }
     {
-        let Ok(mut draft) = TaskDraft::new(
+        let mut draft = TaskDraft::reserve(
             heap,
             CacheParameters {
                 sets: 1,
                 ways: 1,
                 reload: 0,
             },
-        ) else {
-            return Err(AllocError);
-        };
-        let Some(point) = Point::new(None, &[]) else {
-            unreachable()
-        };
-        let Ok(()) = draft.add_point(point) else {
-            unreachable()
-        };
-        match draft.finish() {
-            Ok(task) => Ok(task),
-            Err(_) => unreachable(),
-        }
+        )?;
+        draft.add_point(Point::new(None, &[]).unwrap()).unwrap();
+        Ok(draft.finish().unwrap())
     }
 
     // Every task keeps the limits.
@@ -98,10 +88,5 @@ impl Task {
 fn index_of(blocks: &[u32], block: u32) -> Option<usize>
     ensures { result ≡ first_from 0 (nat_eq block) blocks.now }
 {
-    for (i, b) in blocks.iter().enumerate() {
-        if *b == block {
-            return Some(i);
-        }
-    }
-    None
+    blocks.iter().position(|b| block == *b)
 }

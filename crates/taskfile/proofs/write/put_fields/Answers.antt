@@ -17,20 +17,20 @@ last t = flat_map field_bytes (last_fields t.evicting)
 parts : (shown : List Point) (t : TaskContents) → all_contents shown ≡ t.points → points_bytes shown ++ last t ≡ flat_map field_bytes (fields_after_header t)
 parts shown t e = points_first shown t.points (last_fields t.evicting) e
 
-pub put_points-at-requires : goal.put_points-at-requires
-put_points-at-requires c = let t = contents c.args.task.now in first_fits (points_bytes c.points.result.now) (last t) _ c.args.out.now (parts c.points.result.now t c.points.ensures) c.requires
+pub put_all-at-requires : goal.put_all-at-requires
+put_all-at-requires c = let t = contents c.args.task.now in first_fits (points_bytes c.points.result.now) (last t) _ c.args.out.now (parts c.points.result.now t c.points.ensures) c.requires
 
 pub slice_bounds-put_last-count : goal.slice_bounds-put_last-count
-slice_bounds-put_last-count c = filled_within _ c.args.out.now c.put_points-at.new.out c.put_points-at.result c.put_points-at.ensures
+slice_bounds-put_last-count c = filled_within _ c.args.out.now c.put_all-at.new.out c.put_all-at.result c.put_all-at.ensures
 
 pub slice_bounds-put_last-start : goal.slice_bounds-put_last-start
-slice_bounds-put_last-start c = filled_within _ c.args.out.now c.put_points-at.new.out c.put_points-at.result c.put_points-at.ensures
+slice_bounds-put_last-start c = filled_within _ c.args.out.now c.put_all-at.new.out c.put_all-at.result c.put_all-at.ensures
 
 pub put_last-requires : goal.put_last-requires
 put_last-requires c =
     let t = contents c.args.task.now in
     let b = ap (λ (bs : List ℕ). length (flat_map field_bytes (last_fields bs))) c.evicting.ensures in
-    let f = second_fits (points_bytes c.points.result.now) (last t) _ c.args.out.now c.put_points-at.new.out c.put_points-at.result (parts c.points.result.now t c.points.ensures) c.requires c.put_points-at.ensures in
+    let f = second_fits (points_bytes c.points.result.now) (last t) _ c.args.out.now c.put_all-at.new.out c.put_all-at.result (parts c.points.result.now t c.points.ensures) c.requires c.put_all-at.ensures in
     omega arith
 
 pub overflow_add-result : goal.overflow_add-result
@@ -40,11 +40,11 @@ overflow_add-result c =
     let n = ap length (parts c.points.result.now t c.points.ensures) in
     let l = length-append (points_bytes c.points.result.now) (last t) in
     let m = c.put_last.ensures.0 in
-    let k = c.put_points-at.ensures.0 in
+    let k = c.put_all-at.ensures.0 in
     omega (arith, c.requires)
 
 pub returns : goal.returns
 returns c =
     let t = contents c.args.task.now in
-    two_parts (points_bytes c.points.result.now) (last t) _ c.args.out.now c.put_points-at.new.out c.put_last.new.out c.put_points-at.result c.put_last.result (parts c.points.result.now t c.points.ensures) c.requires c.put_points-at.ensures
+    two_parts (points_bytes c.points.result.now) (last t) _ c.args.out.now c.put_all-at.new.out c.put_last.new.out c.put_all-at.result c.put_last.result (parts c.points.result.now t c.points.ensures) c.requires c.put_all-at.ensures
     (filled_as _ _ _ _ _ (ap (λ (bs : List ℕ). flat_map field_bytes (last_fields bs)) c.evicting.ensures) c.put_last.ensures)

@@ -1,12 +1,11 @@
-use Rattle.std.proofs.Common.{◌≡◌, true, false, eqb, leb, List, length, sym, refl, ap, ◌∙◌, arith}
+use Rattle.std.proofs.Common.{◌≡◌, true, false, eqb, leb, List, length, sym, ap, ◌∙◌, arith}
 use Rattle.std.proofs.lemmas.List.{length-map}
-use Rattle.std.proofs.lemmas.Bool.{and_from, cond-true, cond-false, eqb-true, eqb-false, le-leb, lt-leb}
+use Rattle.std.proofs.lemmas.Bool.{and_from, eqb-true, eqb-false, le-leb, lt-leb}
 use Rattle.task.specs.Contents.{PointContents}
 use Rattle.task.specs.Legal.{closed_point, first_open}
-use Rattle.task.specs.Adding.{no_point, closing}
 use Rattle.task.specs.Meaning.{point_contents, all_contents}
 use Rattle.task.specs.declared.point.Point.{Point}
-use Rattle.task.proofs.Searching.{every_none}
+use Rattle.task.proofs.Chains.{every_none}
 use Rattle.task.proofs.draft.TaskDraft.finish.Goals as goal
 
 -- the test for points, said of what they say
@@ -22,23 +21,8 @@ no_points shown ps e h =
     let n = eqb-true (length shown) 0 (sym h) in
     lt-leb 1 (length ps) (omega (arith, ap length e))
 
-pub returns-then-is_empty : goal.returns-then-is_empty
-returns-then-is_empty c = (cond-false _ _ no_point (no_points _ _ c.points.ensures c.if-is_empty.ensures), refl)
-
 pub invariant_of-result : goal.invariant_of-result
 invariant_of-result c =
     let ps = all_contents c.args.self.points.items in
     let closed = every_none (closed_point (length ps)) 0 ps (sym (c.in-None.ensures ∙ ap first_open c.points-2.ensures)) in
     record { complete = and_from _ _ (some_point _ _ c.points.ensures c.if-is_empty.ensures) closed }
-
-pub returns-in-None : goal.returns-in-None
-returns-in-None c = (
-  cond-true _ _ no_point (some_point _ _ c.points.ensures c.if-is_empty.ensures) ∙ ap closing (sym (c.in-None.ensures ∙ ap first_open c.points-2.ensures)),
-  refl,
-)
-
-pub returns-in-Some : goal.returns-in-Some
-returns-in-Some c = (
-  cond-true _ _ no_point (some_point _ _ c.points.ensures c.if-is_empty.ensures) ∙ ap closing (sym (c.in-Some.ensures ∙ ap first_open c.points-2.ensures)),
-  refl,
-)

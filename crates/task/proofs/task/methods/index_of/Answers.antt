@@ -1,15 +1,13 @@
-use Rattle.std.proofs.Common.{eqb, sym}
-use Rattle.std.proofs.lemmas.Bool.{eq-eqb, ne_eqb}
-use Rattle.task.proofs.Searching.{first_stops, first_goes, first_done}
+use Rattle.std.proofs.Common.{rules, eqb, ◌∙◌}
+use borrow.Author.Tests.{tests}
+use Rattle.std.proofs.lemmas.Iterator.{YieldsList-from_slice}
+use Rattle.std.proofs.lemmas.Iterator.Adapters.{position_from-zero}
+use Rattle.std.proofs.lemmas.Iterator.Search.{position_from_yields_List}
+use Rattle.task.proofs.Chains.{position_first}
 use Rattle.task.proofs.task.methods.index_of.Goals as goal
 
-pub returns-then-b-block : goal.returns-then-b-block
-returns-then-b-block c =
-    first_stops (eqb c.args.block) c.args.blocks.now c.loop-i.i 0 c.loop-i-test.true (eq-eqb _ _ (sym c.if-b-block.true)) c.loop-i.invariant
-
-pub loop-i-preserved : goal.loop-i-preserved
-loop-i-preserved c =
-    first_goes (eqb c.args.block) c.args.blocks.now c.loop-i.i 0 c.loop-i-test.true (ne_eqb _ _ (λ e. c.if-b-block.false (sym e))) c.loop-i.invariant
-
 pub returns : goal.returns
-returns c = first_done (eqb c.args.block) c.args.blocks.now c.loop-i.i c.loop-i-test.false c.loop-i.invariant
+returns c =
+    position_from_yields_List (eqb c.args.block) _ _ _ c.position.ensures.ran (YieldsList-from_slice c.args.blocks.now cc) (λ x b q k. search (rules, tests))
+    ∙ position_from-zero (eqb c.args.block) c.args.blocks.now
+    ∙ position_first (eqb c.args.block) 0 c.args.blocks.now

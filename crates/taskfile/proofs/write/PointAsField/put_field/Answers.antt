@@ -2,7 +2,7 @@ use Rattle.std.proofs.Common.{◌≡◌, ℕ, ◌+◌, ◌/◌, ◌%◌, ◌≤�
 use Rattle.fields.specs.Layout.{with_head}
 use Rattle.taskformat.specs.Writing.{access_bytes}
 use Rattle.taskfile.proofs.Filling.{two_parts}
-use Rattle.taskfile.proofs.write.put_point.Goals as goal
+use Rattle.taskfile.proofs.write.PointAsField.put_field.Goals as goal
 
 abbrev front : Option ℕ → ℕ → List ℕ
 front access n = 2 ∷ (0 ∷ ((length (access_bytes access) + n) ∷ access_bytes access))
@@ -22,7 +22,7 @@ access_short (Some b) = omega arith
 
 pub returns : goal.returns
 returns c =
-    let p = c.args.point.now in
+    let p = c.args.self.now in
     let successors = c.successors-successors.result.now in
     let access = c.access.result in
     let before = c.args.out.now in
