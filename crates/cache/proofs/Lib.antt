@@ -1,5 +1,5 @@
-mod Sizes
-mod Shift
+pub mod Sizes
 mod Tables
 mod Runs
 mod Examples
+mod Places

@@ -1,5 +1,5 @@
 -- An array of block lists and the row that it stands for. Assumes nothing.
-use Rattle.std.proofs.Common.{◌≡◌, ℕ, zero, suc, ◌<◌, ◌≤◌, true, List, [], map, length, get_or, take, set, replicate, None, sym, refl, ap, ◌∙◌, mod-lt, arith, length-take}
+use Rattle.std.proofs.Common.{◌≡◌, ℕ, zero, suc, ◌<◌, ◌≤◌, true, List, [], ◌∷◌, map, length, get_or, take, set, All, None, sym, refl, ap, ◌∙◌, mod-lt, arith}
 use lib.Seq.{take-set-lt}
 use Rattle.std.proofs.lemmas.List.{map-set, get_or-take, get_or-map}
 use Rattle.recency.specs.Blocks.{set_of}
@@ -11,17 +11,19 @@ use Rattle.cache.specs.declared.block_list.BlockList.{BlockList}
 use Rattle.cache.proofs.Sizes.{size_within}
 
 -- a new array stands for empty lists
-row_new : (n sets : ℕ) (list : BlockList) → blocks_of list ≡ [] → sets ≤ n → row_of sets (replicate n list) ≡ empty_row sets
-row_new n zero list e h = refl
-row_new zero (suc sets) list e h = absurd (omega arith)
-row_new (suc n) (suc sets) list e h = rw (row_new n sets list e (omega arith), e)
+row_new : (sets : ℕ) (lists : List BlockList) → All (λ list. blocks_of list ≡ []) lists → sets ≤ length lists → row_of sets lists ≡ empty_row sets
+row_new zero lists none h = refl
+row_new (suc sets) [] none h = absurd (omega arith)
+row_new (suc sets) (list ∷ lists) none h =
+    let first : blocks_of list ≡ [] = none 0 list (omega arith) in
+    rw (first, row_new sets lists (λ k d lt. none (suc k) d (omega arith)) (omega arith)) refl
 
 -- the row of a new cache that is not refused
-module _ (sets ways : ℕ) (list : BlockList) (made : refusal legal_ways sets ways ≡ None) (none : blocks_of list ≡ []) where
-  pub new_row : row_of sets (replicate 64 list) ≡ empty_row sets
-  new_row = row_new 64 sets list none (size_within sets ways made).1
+module _ (sets ways : ℕ) (lists : List BlockList) (made : refusal legal_ways sets ways ≡ None) (room : length lists ≡ 64) (none : All (λ list. blocks_of list ≡ []) lists) where
+  pub new_row : row_of sets lists ≡ empty_row sets
+  new_row = let few = (size_within sets ways made).1 in row_new sets lists none (omega arith)
 
-  pub new_is_row : is_row sets ways (row_of sets (replicate 64 list)) ≡ true
+  pub new_is_row : is_row sets ways (row_of sets lists) ≡ true
   new_is_row = ap (is_row sets ways) new_row ∙ empty_is_row sets ways
 
 -- the list that an access reads and writes, whatever the policy's step is
@@ -40,10 +42,5 @@ module _ (sets w b : ℕ) (lists : List BlockList) (d : BlockList) (some : 1 ≤
       ∙ ap (λ l. set (row_of sets lists) (set_of sets b) l) (is ∙ ap step (sym row_list))
 
   -- it fits its ways
-  pub list_fits : is_row sets w (row_of sets lists) ≡ true → (get_or lists (set_of sets b) d).count ≤ w
-  list_fits h =
-      let own = get_or lists (set_of sets b) d in
-      let few = list_short sets w some b (row_of sets lists) h in
-      let size = ap length row_list in
-      let n = length-take own.count own.blocks in
-      omega (arith, own.room, own.few)
+  pub list_fits : is_row sets w (row_of sets lists) ≡ true → length (blocks_of (get_or lists (set_of sets b) d)) ≤ w
+  list_fits h = rw (← row_list) (list_short sets w some b (row_of sets lists) h)

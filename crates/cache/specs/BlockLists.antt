@@ -4,7 +4,7 @@ use Rattle.cache.specs.declared.block_list.BlockList.{BlockList}
 
 -- the blocks of one set, newest first
 abbrev pub blocks_of : BlockList → List ℕ
-blocks_of l = take l.count l.blocks
+blocks_of l = l.blocks.items
 
 -- the list of each set
 abbrev pub row_of : ℕ → List BlockList → List (List ℕ)

@@ -1,21 +1,18 @@
 -- What a FIFO cache holds, and what it vouches for.
-use Rattle.std.specs.Prelude.{◌≡◌, ℕ, true, List, [], ◌∷◌}
-use Rattle.recency.specs.Blocks.{has}
+use Rattle.std.specs.Prelude.{◌≡◌, ℕ, true, List}
 use Rattle.recency.specs.Rows.{is_row}
 use Rattle.recency.specs.Paired.{Paired}
-use Rattle.cache.specs.BlockLists.{row_of}
-use Rattle.cache.specs.declared.fifo.Fifo.{Fifo}
+use Rattle.cache.specs.ListCaches.{rows_of}
+use Rattle.cache.specs.Policies.{Within}
+use Rattle.cache.specs.declared.list_cache.ListCache.{ListCache}
+use Rattle.cache.specs.declared.policy.Policy.{Ghosts}
 
--- the list of each set
-abbrev pub fifo_row : Fifo → List (List ℕ)
-fifo_row c = row_of c.sets c.lists
+module _ {P : Type 0} {g : Ghosts P} where
+  -- the list of each set
+  abbrev pub fifo_row : ListCache P g → List (List ℕ)
+  fifo_row c = rows_of c
 
--- each block of l stands in m
-abbrev pub Within : List ℕ → List ℕ → Type 0
-Within [] m = Unit {0}
-Within (b ∷ bs) m = (has b m ≡ true) × Within bs m
-
--- each list of the row has at most one block, and the cache holds it. A FIFO cache is sure of no more, since a hit does not
--- put off the eviction of a block
-abbrev pub FifoVouches : Fifo → List (List ℕ) → Type 0
-FifoVouches c row = (is_row c.sets 1 row ≡ true) × Paired Within row (fifo_row c)
+  -- each list of the row has at most one block, and the cache holds it. A FIFO cache is sure of no more, since a hit does not
+  -- put off the eviction of a block
+  abbrev pub FifoVouches : ListCache P g → List (List ℕ) → Type 0
+  FifoVouches c row = (is_row c.sets 1 row ≡ true) × Paired Within row (fifo_row c)

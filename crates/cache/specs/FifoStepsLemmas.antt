@@ -9,10 +9,10 @@ use Rattle.recency.specs.Recency.{without, lru_step}
 use Rattle.recency.specs.Rows.{is_list, is_row, empty_row, list_of, row_step}
 use Rattle.recency.specs.Paired.{Paired}
 use Rattle.recency.proofs.Steps.{step_is_list}
-use Rattle.recency.proofs.Rows.{row_length, set_within, list_is_list, list_short, set_is_row}
+use Rattle.recency.proofs.Rows.{row_length, set_within, list_is_list, list_short, set_is_row, step_is_row, empty_is_row}
 use Rattle.recency.proofs.Pairs.{paired_at, paired_set, paired_replicate}
 use Rattle.cache.specs.FifoSteps.{fifo_step, fifo_row_step}
-use Rattle.cache.specs.FifoState.{Within}
+use Rattle.cache.specs.Policies.{FifoVouchesFor, PolicyLaws, Within}
 
 -- distinct blocks of the set, and no more than w, as after an LRU step
 fifo_is_list : (sets w s b : ℕ) (l : List ℕ) → set_of sets b ≡ s → is_list sets w s l ≡ true → is_list sets w s (fifo_step w b l) ≡ true
@@ -61,3 +61,14 @@ module _ (sets w : ℕ) (own : List (List ℕ)) (h : is_row sets w own ≡ true)
       within_step k one =
           let last = lone_step b (list_of sets b row) (list_short sets 1 some b row one) in
           paired_set Within row own (set_of sets b) _ _ v (subst (λ m. Within m (fifo_step w b (list_of sets b own))) (sym last) (fifo_has w b (list_of sets b own) k, tt))
+
+pub fifo_laws : PolicyLaws fifo_step (λ w. 1) FifoVouchesFor
+fifo_laws = record {
+  life_within = λ w some few. (omega arith, omega arith);
+  step_is_list = fifo_is_list;
+  step_has = fifo_has;
+  empty = λ sets w own h. (empty_is_row sets 1, empty_within sets w own h);
+  rows = λ sets w own row h v. v.0;
+  held = λ sets w own row some h v b. rows_have sets w own h some b row v.1;
+  moves = λ sets w own row some k h v b. (step_is_row sets 1 some b row v.0, within_step sets w own h some b row v.1 k v.0);
+}

@@ -2,7 +2,10 @@ pub mod Faults
 pub mod Outcomes
 pub mod Sizes
 pub mod BlockLists
+pub mod Policies
+pub mod ListCaches
 pub mod LruState
+pub mod LruLaws
 pub mod FifoSteps
 pub mod FifoState
 pub mod Misses

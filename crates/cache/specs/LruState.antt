@@ -2,13 +2,15 @@
 use Rattle.std.specs.Prelude.{ℕ, List}
 use Rattle.recency.specs.Paired.{Paired}
 use Rattle.recency.specs.Prefixes.{Prefix}
-use Rattle.cache.specs.BlockLists.{row_of}
-use Rattle.cache.specs.declared.lru.Lru.{Lru}
+use Rattle.cache.specs.ListCaches.{rows_of}
+use Rattle.cache.specs.declared.list_cache.ListCache.{ListCache}
+use Rattle.cache.specs.declared.policy.Policy.{Ghosts}
 
--- the list of each set
-abbrev pub lru_row : Lru → List (List ℕ)
-lru_row c = row_of c.sets c.lists
+module _ {P : Type 0} {g : Ghosts P} where
+  -- the list of each set
+  abbrev pub lru_row : ListCache P g → List (List ℕ)
+  lru_row c = rows_of c
 
--- each list of the row is a front part of the cache's own list of that set
-abbrev pub LruVouches : Lru → List (List ℕ) → Type 0
-LruVouches c row = Paired Prefix row (lru_row c)
+  -- each list of the row is a front part of the cache's own list of that set
+  abbrev pub LruVouches : ListCache P g → List (List ℕ) → Type 0
+  LruVouches c row = Paired Prefix row (lru_row c)

@@ -1,12 +1,9 @@
 mod methods;
 
-ghost use Rattle.std.specs.Prelude.{◌≡◌, ◌≤◌, length};
+use arrayvec::ArrayVec;
 
-// The blocks of one cache set, newest first: the first `count` of `blocks`.
-#[derive(Clone, Copy)]
+// The blocks of one cache set, newest first.
+#[derive(Drop)]
 pub struct BlockList {
-    blocks: [u32; 8],
-    count: u8,
-    ghost room: { length blocks ≡ 8 },
-    ghost few: { count ≤ 8 },
+    blocks: ArrayVec<u32, 8>,
 }

@@ -1,21 +1,32 @@
-mod methods;
-
-ghost use Rattle.std.specs.Prelude.{◌≡◌, ◌≤◌, true, length};
-ghost use Rattle.recency.specs.Rows.{is_row};
-ghost use Rattle.cache.specs.BlockLists.{row_of};
+ghost use Rattle.cache.specs.FifoSteps.{fifo_step};
+ghost use Rattle.cache.specs.FifoStepsLemmas.{fifo_laws};
+ghost use Rattle.cache.specs.Policies.{FifoVouchesFor};
 
 use crate::block_list::BlockList;
+use crate::list_cache::ListCache;
+use crate::outcome::Outcome;
+use crate::policy::Policy;
 
-// A cache that evicts the block of a set that came in first: each list has its blocks from the last that came in on.
+// Evicts the block of a set that came in first: each list has its blocks from the last that came in on.
 #[derive(Drop)]
-pub struct Fifo {
-    sets: u8,
-    ways: u8,
-    lists: [BlockList; 64],
-    ghost room: { length lists ≡ 64 },
-    ghost some_sets: { 1 ≤ sets },
-    ghost few_sets: { sets ≤ 64 },
-    ghost some_ways: { 1 ≤ ways },
-    ghost few_ways: { ways ≤ 8 },
-    ghost row: { is_row sets ways (row_of sets lists) ≡ true },
+pub struct FifoPolicy;
+
+pub type Fifo = ListCache<FifoPolicy>;
+
+impl Policy for FifoPolicy {
+    ghost step = { fifo_step };
+
+    ghost life = { λ ways. 1 };
+
+    ghost vouches = { FifoVouchesFor };
+
+    fn life(_ways: u8) -> u8 {
+        1
+    }
+
+    fn access(list: &mut BlockList, ways: u8, block: u32) -> Outcome {
+        list.admit(ways, block)
+    }
+
+    ghost laws = { fifo_laws };
 }

@@ -4,10 +4,12 @@
 mod block_list;
 pub mod fault;
 pub mod fifo;
+mod list_cache;
 pub mod lru;
 pub mod outcome;
+mod policy;
 pub mod run;
-mod size;
+pub mod size;
 #[cfg(test)]
 mod tests;
 

@@ -1,21 +1,32 @@
-mod methods;
-
-ghost use Rattle.std.specs.Prelude.{◌≡◌, ◌≤◌, true, length};
-ghost use Rattle.recency.specs.Rows.{is_row};
-ghost use Rattle.cache.specs.BlockLists.{row_of};
+ghost use Rattle.recency.specs.Recency.{lru_step};
+ghost use Rattle.cache.specs.LruLaws.{lru_laws};
+ghost use Rattle.cache.specs.Policies.{LruVouchesFor};
 
 use crate::block_list::BlockList;
+use crate::list_cache::ListCache;
+use crate::outcome::Outcome;
+use crate::policy::Policy;
 
-// A cache that evicts the least recently used block of a set: each list has its blocks from the last accessed on.
+// Evicts the least recently used block of a set: each list has its blocks from the last accessed on.
 #[derive(Drop)]
-pub struct Lru {
-    sets: u8,
-    ways: u8,
-    lists: [BlockList; 64],
-    ghost room: { length lists ≡ 64 },
-    ghost some_sets: { 1 ≤ sets },
-    ghost few_sets: { sets ≤ 64 },
-    ghost some_ways: { 1 ≤ ways },
-    ghost few_ways: { ways ≤ 8 },
-    ghost row: { is_row sets ways (row_of sets lists) ≡ true },
+pub struct LruPolicy;
+
+pub type Lru = ListCache<LruPolicy>;
+
+impl Policy for LruPolicy {
+    ghost step = { lru_step };
+
+    ghost life = { λ ways. ways };
+
+    ghost vouches = { LruVouchesFor };
+
+    fn life(ways: u8) -> u8 {
+        ways
+    }
+
+    fn access(list: &mut BlockList, ways: u8, block: u32) -> Outcome {
+        list.touch(ways, block)
+    }
+
+    ghost laws = { lru_laws };
 }

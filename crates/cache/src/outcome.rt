@@ -2,16 +2,17 @@ ghost use Rattle.std.specs.Prelude.{◌≡◌};
 ghost use Rattle.cache.specs.Outcomes.{outcome_of};
 
 // What an access met.
-#[derive(Clone, Copy)]
+#[derive(Clone, Copy, Debug, PartialEq, Eq)]
 pub enum Outcome {
     Hit,
     Miss,
 }
 
-impl Outcome {
-    pub(crate) fn from_hit(hit: bool) -> Outcome
-        ensures { result ≡ outcome_of hit }
-    {
+// Hit where the block was held.
+impl From<bool> for Outcome {
+    ghost from_gives = { λ hit r. r ≡ outcome_of hit };
+
+    fn from(hit: bool) -> Outcome {
         if hit { Outcome::Hit } else { Outcome::Miss }
     }
 }

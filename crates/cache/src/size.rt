@@ -1,16 +1,17 @@
-ghost use Rattle.std.specs.Prelude.{◌≡◌, Some, None, Ok, Err};
-ghost use Rattle.cache.specs.Sizes.{legal_ways, refusal};
+ghost use Rattle.std.specs.Prelude.{◌≡◌, ℕ, Bool, Some, None, Ok, Err};
+ghost use Rattle.cache.specs.Sizes.{refusal};
 
 use crate::fault::CacheFault;
 
-// Whether a cache that keeps a list of blocks for each set can have this size.
-pub(crate) fn check_size(sets: u8, ways: u8) -> Result<(), CacheFault>
-    ensures { elim result [ Ok _ ↦ refusal legal_ways sets ways ≡ None | Err e ↦ refusal legal_ways sets ways ≡ Some e ] }
+// Whether a cache can have this size, where `can_have` says which ways its kind can have.
+pub fn check_size<F: FnOnce(u8) -> bool>(sets: u8, ways: u8, can_have: F) -> Result<(), CacheFault>
+    requires { F.pre can_have ways }
+    ensures { (legal : ℕ → Bool) → ((fits : Bool) → F.post can_have ways fits → fits ≡ legal ways) → elim result [ Ok _ ↦ refusal legal sets ways ≡ None | Err e ↦ refusal legal sets ways ≡ Some e ] }
 {
-    if sets < 1 || sets > 64 {
+    if !(1..=64).contains(&sets) {
         return Err(CacheFault::Sets);
     }
-    if ways < 1 || ways > 8 {
+    if !can_have(ways) {
         return Err(CacheFault::Ways);
     }
     Ok(())

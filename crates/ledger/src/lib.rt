@@ -2,14 +2,14 @@
 #![tactic(auto)]
 
 // Whether the task walks, is interrupted, or its run has ended.
-#[derive(Clone, Copy)]
+#[derive(Clone, Copy, Debug, PartialEq, Eq)]
 pub enum State {
     Walking,
     Interrupted,
     Ended,
 }
 
-#[derive(Clone, Copy)]
+#[derive(Clone, Copy, Debug, PartialEq, Eq)]
 pub enum Call {
     // Performs the point's access, and moves to a successor.
     Step(usize),
@@ -24,7 +24,7 @@ pub enum Call {
 }
 
 // Plain loads are those of the same steps, uninterrupted, on an LRU cache that is empty at first.
-#[derive(Clone, Copy)]
+#[derive(Clone, Copy, Debug, Default, PartialEq, Eq)]
 pub struct Counts {
     pub steps: u32,
     pub interruptions: u32,

@@ -5,4 +5,4 @@ use Rattle.plru.specs.Caches.{CacheState}
 use Rattle.plru.specs.Meaning.{state_of}
 
 abbrev pub contents : Plru → CacheState
-contents c = record { sets = c.sets; ways = c.ways; states = take c.sets (map state_of c.lines) }
+contents c = record { sets = c.sets; ways = c.tree.ways; states = take c.sets (map state_of c.lines) }

@@ -1,7 +1,7 @@
 -- Laws of lists of blocks: where a block stands, and what stands in front of it. Assumes nothing.
-use Rattle.std.specs.Prelude.{◌≡◌, ℕ, zero, suc, ◌+◌, ◌<◌, ◌≤◌, true, false, List, [], ◌∷◌, ◌++◌, length, take, drop, replicate, ◌≢◌, slice_index, slice_set, refl}
-use Rattle.std.proofs.Common.{sym, ap, ◌∙◌, arith, add-one, drop_of_length-le, drop-cons}
-use Rattle.std.proofs.lemmas.Bool.{eq-eqb, ne_eqb, cond-true, cond-false}
+use Rattle.std.specs.Prelude.{◌≡◌, ℕ, zero, suc, ◌<◌, ◌≤◌, Bool, true, false, cond, List, [], ◌∷◌, ◌++◌, length, take, replicate, Some, None, ◌==◌, ◌≢◌, nat_lt, position, slice_set, refl}
+use Rattle.std.specs.List.{position_or_len}
+use Rattle.std.proofs.Common.{sym, ◌∙◌, arith}
 use Rattle.std.proofs.lemmas.Bool.Decides.{nat_tests}
 use Rattle.recency.specs.Blocks.{has, distinct}
 use Rattle.recency.specs.Recency.{without, front}
@@ -14,6 +14,11 @@ pub index_within : (x : ℕ) (l : List ℕ) → has x l ≡ true → index_of x 
 index_within x [] h = absurd (let z : ◌≡◌ {A = ℕ} 0 1 = cc in omega arith)
 index_within x (y ∷ l) h = let i = index_within x l in grind (arith, nat_tests)
 
+-- the place that a search for a block finds
+found_place : (b : ℕ) (l : List ℕ) → position_or_len (λ x. x == b) l ≡ index_of b l
+found_place b [] = refl
+found_place b (y ∷ l) = let i = found_place b l in grind (arith, nat_tests)
+
 pub index_has : (x : ℕ) (l : List ℕ) → index_of x l < length l → has x l ≡ true
 index_has x [] h = absurd (omega arith)
 index_has x (y ∷ l) h = let i = index_has x l in grind (arith, nat_tests)
@@ -22,9 +27,25 @@ pub index_lacks : (x : ℕ) (l : List ℕ) → length l ≤ index_of x l → has
 index_lacks x [] h = refl
 index_lacks x (y ∷ l) h = let i = index_lacks x l in grind (arith, nat_tests)
 
-index_most : (x : ℕ) (l : List ℕ) → index_of x l ≤ length l
-index_most x [] = omega arith
-index_most x (y ∷ l) = let i = index_most x l in grind (arith, nat_tests)
+index_tells : (b : ℕ) (l : List ℕ) → nat_lt (index_of b l) (length l) ≡ has b l
+index_tells b [] = refl
+index_tells b (y ∷ l) = let i = index_tells b l in grind (arith, nat_tests)
+
+module _ (b : ℕ) (l : List ℕ) where
+  searched : position (λ x. x == b) l ≡ cond (has b l) (Some (index_of b l)) None
+  searched = rw (found_place b l, index_tells b l) refl
+
+  pub found : (i : ℕ) → position (λ x. x == b) l ≡ Some i → (has b l ≡ true) × (i ≡ index_of b l)
+  found i e = by (has b l) refl (sym searched ∙ e) where
+    by : (t : Bool) → has b l ≡ t → cond t (Some (index_of b l)) None ≡ Some i → (has b l ≡ true) × (i ≡ index_of b l)
+    by true h k = (h, cc)
+    by false h k = absurd (let z : ◌≡◌ {A = ℕ} 0 1 = cc in omega arith)
+
+  pub not_found : position (λ x. x == b) l ≡ None → has b l ≡ false
+  not_found e = by (has b l) refl (sym searched ∙ e) where
+    by : (t : Bool) → has b l ≡ t → cond t (Some (index_of b l)) None ≡ None → has b l ≡ false
+    by true h k = absurd (let z : ◌≡◌ {A = ℕ} 0 1 = cc in omega arith)
+    by false h k = h
 
 pub index_append : (x : ℕ) (l m : List ℕ) → has x l ≡ true → index_of x (l ++ m) ≡ index_of x l
 index_append x [] m h = absurd (let z : ◌≡◌ {A = ℕ} 0 1 = cc in omega arith)
@@ -106,23 +127,6 @@ has_rest x y l n h = grind (arith, nat_tests)
 
 pub distinct_more : (y : ℕ) (l : List ℕ) → has y l ≡ false → distinct l ≡ true → distinct (y ∷ l) ≡ true
 distinct_more y l h d = grind (arith, nat_tests)
-
--- a search for a block, from the place i on
-pub index_goes : (b : ℕ) (l : List ℕ) (i : ℕ) → i < length l → (slice_index l i ≢ b) → i + index_of b (drop i l) ≡ index_of b l → i + 1 + index_of b (drop (i + 1) l) ≡ index_of b l
-index_goes b l i h n e =
-    let s : index_of b (drop i l) ≡ suc (index_of b (drop (i + 1) l)) = ap (index_of b) (drop-cons l i 0 h) ∙ cond-false _ _ _ (ne_eqb b (slice_index l i) (λ k. n (sym k))) ∙ ap (λ k. suc (index_of b (drop k l))) (sym (add-one i)) in
-    omega arith
-
-pub index_stops : (b : ℕ) (l : List ℕ) (i : ℕ) → i < length l → slice_index l i ≡ b → i + index_of b (drop i l) ≡ index_of b l → i ≡ index_of b l
-index_stops b l i h n e =
-    let s : index_of b (drop i l) ≡ 0 = ap (index_of b) (drop-cons l i 0 h) ∙ cond-true _ _ _ (eq-eqb b (slice_index l i) (sym n)) in
-    omega arith
-
-pub index_done : (b : ℕ) (l : List ℕ) (i : ℕ) → length l ≤ i → i + index_of b (drop i l) ≡ index_of b l → length l ≡ index_of b l
-index_done b l i h e =
-    let s : index_of b (drop i l) ≡ 0 = ap (index_of b) (drop_of_length-le l h) in
-    let n = index_most b l in
-    omega arith
 
 -- lists paired with one element over and over
 module _ {A B : Type 0} (R : A → B → Type 0) where

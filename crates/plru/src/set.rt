@@ -1,13 +1,10 @@
 mod methods;
 
-ghost use Rattle.std.specs.Prelude.{◌≡◌, ◌≤◌, length};
+use arrayvec::ArrayVec;
 
-// One set. The ways are filled from the first on and stay filled, so `count` says which ones are.
-#[derive(Clone, Copy)]
+// One set: the blocks of the filled ways, which are the first ones and stay filled, and the bits of the tree.
+#[derive(Drop)]
 pub struct PlruSet {
-    blocks: [u32; 8],
-    count: u8,
+    blocks: ArrayVec<u32, 8>,
     bits: u8,
-    ghost few: { count ≤ 8 },
-    ghost room: { length blocks ≡ 8 },
 }

@@ -1,6 +1,13 @@
 ghost use Rattle.std.specs.Prelude.{◌≡◌, ◌<◌, true};
 ghost use Rattle.plru.specs.Tree.{is_tree, levels, path_mask, path_value, touched, victim};
 
+// The tree over 2, 4 or 8 ways.
+#[derive(Clone, Copy)]
+pub struct Tree {
+    pub ways: u8,
+    ghost size: { is_tree ways ≡ true },
+}
+
 // The bits of the tree above a way, and what an access of the way sets them to: each names the half without the way.
 // Bit p of a set is the one of place p: place 1 is the root, place p has the halves 2p and 2p + 1.
 #[derive(Clone, Copy)]
@@ -74,51 +81,48 @@ const PATHS_OF_8: [PathBits; 8] = [
     },
 ];
 
-// The row of a way in the table of its tree.
-fn path_bits(ways: u8, way: u8) -> PathBits
-    requires size { is_tree ways ≡ true }
-    requires within { way < ways }
-    ensures mask { result.mask ≡ path_mask ways way }
-    ensures value { result.value ≡ path_value ways way }
-{
-    if ways == 2 {
-        PATHS_OF_2[way as usize]
-    } else if ways == 4 {
-        PATHS_OF_4[way as usize]
-    } else {
-        PATHS_OF_8[way as usize]
+impl Tree {
+    // The row of a way in the table of its tree.
+    fn path_bits(self, way: u8) -> PathBits
+        requires { way < self.ways }
+        ensures mask { result.mask ≡ path_mask self.ways way }
+        ensures value { result.value ≡ path_value self.ways way }
+    {
+        match self.ways {
+            2 => PATHS_OF_2[way as usize],
+            4 => PATHS_OF_4[way as usize],
+            _ => PATHS_OF_8[way as usize],
+        }
     }
-}
 
-// The bits after an access of a way.
-pub fn touch(bits: u8, ways: u8, way: u8) -> u8
-    requires size { is_tree ways ≡ true }
-    requires within { way < ways }
-    ensures { result ≡ touched ways way bits }
-{
-    let path = path_bits(ways, way);
-    (bits & !path.mask) | path.value
-}
-
-// The way that the bits lead to: from the root on, each bit names the half to go on in.
-pub fn victim(bits: u8, ways: u8) -> u8
-    requires { is_tree ways ≡ true }
-    ensures { result ≡ victim ways bits }
-{
-    let mut place: u8 = 1;
-    for _level in 0..levels(ways) {
-        place = 2 * place + ((bits >> place) & 1);
+    // The bits after an access of a way.
+    pub fn touch(self, bits: u8, way: u8) -> u8
+        requires { way < self.ways }
+        ensures { result ≡ touched self.ways way bits }
+    {
+        let path = self.path_bits(way);
+        (bits & !path.mask) | path.value
     }
-    place - ways
-}
 
-// The inner places above a way.
-pub fn levels(ways: u8) -> u8
-    ensures { result ≡ levels ways }
-{
-    match ways {
-        2 => 1,
-        4 => 2,
-        _ => 3,
+    // The way that the bits lead to: from the root on, each bit names the half to go on in.
+    pub fn victim(self, bits: u8) -> u8
+        ensures { result ≡ victim self.ways bits }
+    {
+        let mut place: u8 = 1;
+        for _level in 0..self.levels() {
+            place = 2 * place + ((bits >> place) & 1);
+        }
+        place - self.ways
+    }
+
+    // The inner places above a way.
+    pub fn levels(self) -> u8
+        ensures { result ≡ levels self.ways }
+    {
+        match self.ways {
+            2 => 1,
+            4 => 2,
+            _ => 3,
+        }
     }
 }

@@ -1,8 +1,9 @@
-ghost use Rattle.std.specs.Prelude.{◌≡◌, slice_index_or};
+ghost use Rattle.std.specs.Prelude.{◌≡◌, length, All, slice_index_or};
 ghost use Rattle.std.specs.Result.{result_map_both};
 ghost use Rattle.cache.specs.Outcomes.{outcome_of};
 ghost use Rattle.plru.specs.Caches.{Guarded, cache_step, holds_block, life_of, new_cache};
 ghost use Rattle.plru.specs.Contents.{contents};
+ghost use Rattle.plru.specs.Meaning.{state_of};
 ghost use Rattle.plru.specs.Sets.{empty_set};
 ghost use Rattle.std.proofs.Common.{arith, rules};
 ghost use Rattle.plru.specs.Guarding.{empty_guarded, guarded_held};
@@ -10,10 +11,12 @@ ghost use Rattle.plru.specs.Lines.{states_length};
 
 use crate::plru::Plru;
 use crate::set::PlruSet;
-use crate::tree::levels;
+use crate::tree::Tree;
 use cache::Cache;
 use cache::fault::CacheFault;
 use cache::outcome::Outcome;
+use cache::size::check_size;
+use std::array;
 
 impl Plru {
     pub const MAX_SETS: u8 = 64;
@@ -22,17 +25,11 @@ impl Plru {
     pub fn new(sets: u8, ways: u8) -> Result<Plru, CacheFault>
         ensures { result_map_both contents (λ e. e) result ≡ new_cache sets ways }
     {
-        if sets == 0 || sets > Self::MAX_SETS {
-            return Err(CacheFault::Sets);
-        }
-        if ways != 2 && ways != 4 && ways != 8 {
-            return Err(CacheFault::Ways);
-        }
-        let empty = PlruSet::empty();
+        check_size(sets, ways, |ways| matches!(ways, 2 | 4 | 8))?;
         Ok(Plru {
             sets,
-            ways,
-            lines: [empty; 64],
+            tree: Tree { ways },
+            lines: empty_lines(),
         })
     }
 
@@ -52,10 +49,7 @@ impl Plru {
         ensures moved { contents self.new ≡ cache_step block (contents self.old) }
     {
         let set = (block % self.sets as u32) as usize;
-        let mut line = self.lines[set];
-        let hit = line.access(self.ways, block);
-        self.lines[set] = line;
-        if hit { Outcome::Hit } else { Outcome::Miss }
+        self.lines[set].access(self.tree, block)
     }
 }
 
@@ -83,10 +77,17 @@ impl Cache for Plru {
     }
 
     fn life(&self) -> u8 {
-        levels(self.ways) + 1
+        self.tree.levels() + 1
     }
 
     fn access(&mut self, block: u32) -> Outcome {
         self.load(block)
     }
+}
+
+fn empty_lines() -> [PlruSet; 64]
+    ensures room { length result ≡ 64 }
+    ensures empty { All (λ line. state_of line ≡ empty_set) result }
+{
+    array::from_fn(|_| PlruSet::empty())
 }

@@ -1,19 +1,20 @@
-ghost use Rattle.std.specs.Prelude.{◌≡◌, ◌≤◌, true};
+ghost use Rattle.std.specs.Prelude.{◌≡◌, ◌≤◌, ◌==◌, length, position};
+ghost use Rattle.cache.specs.Outcomes.{outcome_of};
 ghost use Rattle.recency.specs.Blocks.{has};
 ghost use Rattle.plru.specs.Meaning.{state_of};
-ghost use Rattle.plru.specs.Sets.{blocks_filled, empty_set, index_of, plru_step, way_to_fill};
-ghost use Rattle.plru.specs.Tree.{is_tree};
+ghost use Rattle.plru.specs.Sets.{blocks_filled, empty_set, plru_step, way_to_fill};
 
 use crate::set::PlruSet;
-use crate::tree::{touch, victim};
+use crate::tree::Tree;
+use arrayvec::ArrayVec;
+use cache::outcome::Outcome;
 
 impl PlruSet {
     pub fn empty() -> PlruSet
         ensures { state_of result ≡ empty_set }
     {
         PlruSet {
-            blocks: [0; 8],
-            count: 0,
+            blocks: ArrayVec::new(),
             bits: 0,
         }
     }
@@ -22,54 +23,45 @@ impl PlruSet {
     pub fn blocks(&self) -> &[u32]
         ensures { result.now ≡ (state_of self.now).blocks }
     {
-        &self.blocks[0..self.count as usize]
+        self.blocks.as_slice()
     }
 
-    // An access in a set of so many ways; says whether it hits.
-    pub fn access(&mut self, ways: u8, block: u32) -> bool
-        requires size { is_tree ways ≡ true }
-        requires fits { self.old.count ≤ ways }
-        ensures hit { result ≡ has block (state_of self.old).blocks }
-        ensures moved { state_of self.new ≡ plru_step ways block (state_of self.old) }
+    // The way that a block is in.
+    fn way_of(&self, block: u32) -> Option<usize>
+        ensures { result ≡ position (λ b. b == block) (state_of self.now).blocks }
     {
-        let found = index_of(self.blocks(), block);
-        if found < self.count as usize {
-            self.bits = touch(self.bits, ways, found as u8);
-            return true;
+        self.blocks().iter().position(|b| *b == block)
+    }
+
+    // An access in a set under a tree of so many ways.
+    pub fn access(&mut self, tree: Tree, block: u32) -> Outcome
+        requires { length (state_of self.old).blocks ≤ tree.ways }
+        ensures hit { result ≡ outcome_of (has block (state_of self.old).blocks) }
+        ensures moved { state_of self.new ≡ plru_step tree.ways block (state_of self.old) }
+    {
+        if let Some(way) = self.way_of(block) {
+            self.bits = tree.touch(self.bits, way as u8);
+            return Outcome::Hit;
         }
-        let way = self.fill(ways, block);
-        self.bits = touch(self.bits, ways, way);
-        false
+        let way = self.fill(tree, block);
+        self.bits = tree.touch(self.bits, way);
+        Outcome::Miss
     }
 
     // Puts a block that is not held into the lowest empty way, else into the one that the bits lead to; says which.
-    fn fill(&mut self, ways: u8, block: u32) -> u8
-        requires size { is_tree ways ≡ true }
-        requires fits { self.old.count ≤ ways }
-        ensures way { result ≡ way_to_fill ways (state_of self.old) }
-        ensures blocks { (state_of self.new).blocks ≡ blocks_filled ways block (state_of self.old) }
+    fn fill(&mut self, tree: Tree, block: u32) -> u8
+        requires { length (state_of self.old).blocks ≤ tree.ways }
+        ensures way { result ≡ way_to_fill tree.ways (state_of self.old) }
+        ensures blocks { (state_of self.new).blocks ≡ blocks_filled tree.ways block (state_of self.old) }
         ensures bits { (state_of self.new).bits ≡ (state_of self.old).bits }
     {
-        if self.count < ways {
-            let way = self.count;
-            self.blocks[way as usize] = block;
-            self.count += 1;
+        let way = self.blocks.len() as u8;
+        if way < tree.ways {
+            self.blocks.push(block);
             return way;
         }
-        let way = victim(self.bits, ways);
+        let way = tree.victim(self.bits);
         self.blocks[way as usize] = block;
         way
     }
-}
-
-// Where the block first stands, or the length where it is not there.
-fn index_of(blocks: &[u32], block: u32) -> usize
-    ensures { result ≡ index_of block blocks.now }
-{
-    for (i, b) in blocks.iter().enumerate() {
-        if *b == block {
-            return i;
-        }
-    }
-    blocks.len()
 }

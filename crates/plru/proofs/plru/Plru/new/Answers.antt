@@ -1,18 +1,24 @@
-use Rattle.std.proofs.Common.{◌≡◌, ℕ, true, ◌⊎◌, refl, arith}
-use Rattle.std.proofs.lemmas.Bool.Decides.{nat_tests}
+use Rattle.std.proofs.Common.{arith, rules}
+use Rattle.cache.proofs.Sizes.{made_within}
 use Rattle.plru.specs.Tree.{is_tree}
-use Rattle.plru.specs.Lines.{empty_count, fit_replicate, states_empty, new_made}
+use Rattle.plru.specs.Lines.{fit_empty, new_made, new_refused, states_empty}
 use Rattle.plru.proofs.plru.Plru.new.Goals as goal
 
--- the tests that were passed leave 2, 4 or 8 ways
-sized : (ways : ℕ) → ((ways ≡ 2 → ⊥) × (ways ≡ 4 → ⊥) × (ways ≡ 8)) ⊎ (((ways ≡ 2 → ⊥) × (ways ≡ 4)) ⊎ (ways ≡ 2)) → is_tree ways ≡ true
-sized ways e = grind (arith, nat_tests)
+pub returns-in_err-check_size : goal.returns-in_err-check_size
+returns-in_err-check_size c = let refused = c.in_err-check_size.ensures is_tree (λ fits post. search rules) in search (rules, new_refused)
 
 pub invariant_of-result : goal.invariant_of-result
-invariant_of-result c =
-    let e = empty_count c.empty-empty.result c.empty-empty.ensures in
-    record { some = omega arith; few = omega arith; size = sized c.args.ways c.else-ways-ne2.either; room = refl; fits = fit_replicate c.args.ways 64 c.empty-empty.result (omega arith) }
+invariant_of-result c = record { size = (made_within is_tree c.args.sets c.args.ways (c.in_ok-check_size.ensures is_tree (λ fits post. search rules))).2 }
+
+pub invariant_of-result-2 : goal.invariant_of-result-2
+invariant_of-result-2 c =
+    let k = made_within is_tree c.args.sets c.args.ways (c.in_ok-check_size.ensures is_tree (λ fits post. search rules)) in
+    let lines = c.empty_lines.ensures in
+    record { some = k.0; few = k.1; room = lines.room; fits = fit_empty c.args.ways _ lines.empty }
 
 pub returns : goal.returns
 returns c =
-    new_made c.args.sets c.args.ways _ (omega arith) (omega arith) (sized c.args.ways c.else-ways-ne2.either) (states_empty c.args.sets 64 c.empty-empty.result (omega arith) c.empty-empty.ensures)
+    let made = c.in_ok-check_size.ensures is_tree (λ fits post. search rules) in
+    let few = (made_within is_tree c.args.sets c.args.ways made).1 in
+    let room = c.empty_lines.ensures.room in
+    new_made c.args.sets c.args.ways _ made (states_empty c.args.sets _ (omega arith) c.empty_lines.ensures.empty)

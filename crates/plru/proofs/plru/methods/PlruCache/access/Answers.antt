@@ -14,9 +14,9 @@ returns c =
     let long = states_length s.sets s.lines (omega arith) in
     record {
       hit = c.load.ensures.outcome;
-      held = ap (λ (k : CacheState). holds_block k b) moved ∙ block_held (contents s) s.some long s.size b;
+      held = ap (λ (k : CacheState). holds_block k b) moved ∙ block_held (contents s) s.some long s.tree.size b;
       sets = ap (λ (k : CacheState). k.sets) moved;
       life = ap (λ (k : CacheState). life_of k.ways) moved;
-      moves = λ row g. subst (λ (k : CacheState). Guarded k (row_step s.sets (life_of s.ways) b row)) (sym moved)
-          (guarded_step (contents s) s.some long s.size b (few_at s.sets s.lines s.ways (b % s.sets) (omega arith) (mod-lt b s.some) s.fits) row g);
+      moves = λ row g. subst (λ (k : CacheState). Guarded k (row_step s.sets (life_of s.tree.ways) b row)) (sym moved)
+          (guarded_step (contents s) s.some long s.tree.size b (few_at s.sets s.lines s.tree.ways (b % s.sets) (omega arith) (mod-lt b s.some) s.fits) row g);
     }

@@ -3,12 +3,12 @@ use lib.Bits.{bit_and}
 use Rattle.std.proofs.lemmas.Nat.{and_le_r}
 use Rattle.plru.specs.Tree.{led_to}
 use Rattle.plru.specs.Bits.{led_small, led_on, levels_few}
-use Rattle.plru.proofs.tree.victim.Goals as goal
+use Rattle.plru.proofs.tree.Tree.victim.Goals as goal
 
 within : (c : goal.In-loop-level) → c.loop-level.place < 8
 within c =
     let e : c.loop-level.place ≡ led_to c.args.bits c.loop-level._level = c.loop-level.invariant in
-    let f = levels_few c.args.ways in
+    let f = levels_few c.args.self.ways in
     let t = c.loop-level-test.true in
     let s = led_small c.args.bits c.loop-level._level (let r = c.levels-level-end.ensures in omega arith) in
     omega arith
