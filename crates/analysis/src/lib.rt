@@ -35,7 +35,10 @@ pub fn analyse(
         return Err(ShortTable);
     }
     let rounds = tables.settle(task)?;
-    fill(task, tables, sheet);
-    let largest = largest_of(&sheet[0..n]);
-    Ok(Analysis { rounds, largest })
+    let records = &mut sheet[0..n];
+    fill(task, tables, records);
+    Ok(Analysis {
+        rounds,
+        largest: largest_of(records),
+    })
 }

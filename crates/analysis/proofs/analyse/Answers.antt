@@ -1,5 +1,8 @@
-use Rattle.std.proofs.Common.{◌≡◌, ℕ, ◌-◌, length, take, sym, refl, ap, ◌∙◌, inl, arith}
+use Rattle.std.proofs.Common.{◌≡◌, ℕ, ◌-◌, ◌++◌, length, drop, sym, refl, ap, ◌∙◌, inl, arith}
 use lib.ListN.{length-map}
+use borrow.Rule.Slice.PartMut.{post_of}
+use Rattle.std.proofs.lemmas.List.{take_at}
+use Rattle.std.proofs.lemmas.Slice.{drop-append-drop}
 use Rattle.task.specs.Meaning.{point_contents}
 use Rattle.task.specs.Tasks.{contents}
 use Rattle.task.proofs.Drafting.{kept}
@@ -28,18 +31,21 @@ fill-requires c =
 pub returns : goal.returns
 returns c =
     let t = contents c.args.task.now in
+    let k = length t.points in
     let n = sym (length-map c.points-n.result.now point_contents) ∙ ap length c.points-n.ensures in
+    let before = c.args.sheet.now in
+    let records = c.fill.new.sheet in
     let all = c.in_ok-rounds.ensures.answer in
-    let records = c.fill.ensures.records ∙ settled_sheet t (rows_of c.args.tables.now) (rows_of c.settle.new.self) c.in_ok-rounds.rounds all (kept t c.args.task.now.draft.legal).blocks_few in
-    let k : length c.points-n.result.now - 0 ≡ length t.points = omega (arith, n) in
-    let most : c.largest_of-largest.result ≡ largest (take (length c.points-n.result.now - 0) c.fill.new.sheet) = c.largest_of-largest.ensures in
+    let filled = c.fill.ensures ∙ settled_sheet t (rows_of c.args.tables.now) (rows_of c.settle.new.self) c.in_ok-rounds.rounds all (kept t c.args.task.now.draft.legal).blocks_few in
+    let same : length c.points-n.result.now - 0 ≡ k = omega (arith, n) in
+    let len : length records ≡ k = omega (arith, n, c.fill.auto.sheet, c.if-sheet-n.false) in
     record {
       answer = record {
         tables = all;
         room = omega (arith, n, c.if-sheet-n.false);
-        records = records;
-        rest = c.fill.ensures.rest;
-        most = most ∙ ap (λ (m : ℕ). largest (take m c.fill.new.sheet)) k ∙ ap largest records;
+        records = take_at records (post_of 0 (length c.points-n.result.now - 0) before) k len ∙ filled;
+        rest = ap (λ (m : ℕ). drop k (records ++ post_of 0 m before)) same ∙ drop-append-drop k before records k (omega (arith, n, c.if-sheet-n.false)) len;
+        most = c.largest_of.ensures ∙ ap largest filled;
       };
       lent = c.settle.ensures.lent;
     }
