@@ -20,9 +20,9 @@ use taskfile::read_task;
 
 // The text for a file: the sheet of its task, or why it is refused.
 #[derive(Drop)]
-pub struct Reply {
-    pub text: String,
-    pub accepted: bool,
+pub enum Reply {
+    Accepted(String),
+    Refused(String),
 }
 
 // Reads a task file, and analyses the task that it holds.
@@ -37,15 +37,9 @@ fn reply_to(heap: Global, file: &[u8]) -> Result<Reply, AllocError>
     ensures { IfOk result (Answers file.now) }
 {
     match read_task(heap, file) {
-        Ok(task) => Ok(Reply {
-            text: task_text(heap, &task)?,
-            accepted: true,
-        }),
+        Ok(task) => Ok(Reply::Accepted(task_text(heap, &task)?)),
         Err(TaskFault::Memory) => Err(AllocError),
-        Err(fault) => Ok(Reply {
-            text: refusal_line(heap, fault)?,
-            accepted: false,
-        }),
+        Err(fault) => Ok(Reply::Refused(refusal_line(heap, fault)?)),
     }
 }
 

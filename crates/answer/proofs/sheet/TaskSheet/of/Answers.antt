@@ -24,7 +24,7 @@ taken t before after rounds few all =
 pub returns : goal.returns
 returns c =
     let t = contents c.args.task.now in
-    let a = c.in-Ok.ensures.answer in
+    let a = rw c.unwrap-largest.ensures at c.analyse.ensures.answer in
     record {
       records = a.records;
       most = a.most;
