@@ -1,3 +1,4 @@
+pub mod Copied
 pub mod Steps
 pub mod Rising
 pub mod Idle

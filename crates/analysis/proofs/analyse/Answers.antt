@@ -13,7 +13,7 @@ use Rattle.analysis.proofs.analyse.Goals as goal
 
 pub returns-then-sheet-n : goal.returns-then-sheet-n
 returns-then-sheet-n c =
-    let n = sym (length-map c.points-n.result.now point_contents) ∙ ap length c.points-n.ensures in
+    let n = c.points-n.ensures.many in
     record {
       answer = record { short = inl (omega (arith, n, c.if-sheet-n.true)); tables_stay = refl; sheet_stays = refl };
       lent = record { ages = refl; reuses = refl; conflicts = refl; widest = refl };
@@ -22,7 +22,7 @@ returns-then-sheet-n c =
 pub fill-requires : goal.fill-requires
 fill-requires c =
     let t = contents c.args.task.now in
-    let n = sym (length-map c.points-n.result.now point_contents) ∙ ap length c.points-n.ensures in
+    let n = c.points-n.ensures.many in
     record {
       room = omega (arith, n, c.if-sheet-n.false);
       settled = settled_room t (rows_of c.args.tables.now) (rows_of c.settle.new.self) c.in_ok-rounds.rounds c.in_ok-rounds.ensures.answer;
@@ -32,7 +32,7 @@ pub returns : goal.returns
 returns c =
     let t = contents c.args.task.now in
     let k = length t.points in
-    let n = sym (length-map c.points-n.result.now point_contents) ∙ ap length c.points-n.ensures in
+    let n = c.points-n.ensures.many in
     let before = c.args.sheet.now in
     let records = c.fill.new.sheet in
     let all = c.in_ok-rounds.ensures.answer in

@@ -10,14 +10,14 @@ use Rattle.answer.proofs.task_text.Goals as goal
 pub slice_bounds-analysis_text-end : goal.slice_bounds-analysis_text-end
 slice_bounds-analysis_text-end c =
     let t = contents c.args.task.now in
-    let n = sym (length-map c.points-n.result.now point_contents) ∙ ap length c.points-n.ensures in
+    let n = c.points-n.ensures.many in
     let few = (kept t c.args.task.now.draft.legal).points_few in
     omega (arith, n, few, c.of-sheet.result.room)
 
 pub returns : goal.returns
 returns c =
     let t = contents c.args.task.now in
-    let n = sym (length-map c.points-n.result.now point_contents) ∙ ap length c.points-n.ensures in
+    let n = c.points-n.ensures.many in
     let k : length c.points-n.result.now - 0 ≡ length t.points = omega (arith, n) in
     let records = c.of-sheet.result.records in
     let e : take (length c.points-n.result.now - 0) records ≡ sheet t = ap (λ (m : ℕ). take m records) k ∙ c.of-sheet.ensures.records in

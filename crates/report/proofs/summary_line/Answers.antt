@@ -7,7 +7,7 @@ use Rattle.report.proofs.summary_line.Goals as goal
 pub returns : goal.returns
 returns c =
     let cache = c.parameters-sets.ensures in
-    let points = sym (length-map c.points.result.now point_contents) ∙ ap length c.points.ensures in
+    let points = c.points.ensures.many in
     let blocks = c.blocks-2.ensures.value in
     let text = simp (append_assoc, cache.sets, cache.ways, cache.reload, points, blocks, c.evicting.ensures) at c.format.ensures.ok in
     search rules

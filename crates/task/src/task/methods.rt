@@ -41,7 +41,9 @@ impl Task {
     }
 
     pub fn points(&self) -> &[Point]
-        ensures { all_contents result.now ≡ (contents self.now).points }
+        ensures value { all_contents result.now ≡ (contents self.now).points }
+        ensures many { length result.now ≡ length (contents self.now).points }
+        ensures few { length result.now ≤ 128 }
     {
         self.draft.points()
     }

@@ -11,47 +11,43 @@ use Rattle.tables.specs.Tables.{use_notes}
 use Rattle.tables.proofs.Settles.{ages_settle, conflicts_settle, widest_settle, solved_room}
 use Rattle.tables.proofs.Tables.settle.Goals as goal
 
--- as many points as the task has
-many : (shown : List Point) (points : List PointContents) → all_contents shown ≡ points → length shown ≡ length points
-many shown points e = sym (length-map shown point_contents) ∙ ap length e
-
 pub returns-then-len-n : goal.returns-then-len-n
 returns-then-len-n c =
-    let n = many c.points-n.result.now (contents c.args.task.now).points c.points-n.ensures in
+    let n = c.points-n.ensures.many in
     record { answer = (omega (arith, n, c.len.ensures, c.if-len-n.true), refl); lent = record { ages = refl; reuses = refl; conflicts = refl; widest = refl } }
 
 pub settle_one-ages-requires : goal.settle_one-ages-requires
 settle_one-ages-requires c =
     let t = contents c.args.task.now in
-    let n = many c.points-n.result.now t.points c.points-n.ensures in
+    let n = c.points-n.ensures.many in
     let few = (kept t c.args.task.now.draft.legal).points_few in
     record { room = omega (arith, n, c.len.ensures, c.if-len-n.false); noted = omega (arith, few, c.access_notes-notes.ensures.room) }
 
 pub settle_one-reuses-requires : goal.settle_one-reuses-requires
 settle_one-reuses-requires c =
     let t = contents c.args.task.now in
-    let n = many c.points-n.result.now t.points c.points-n.ensures in
+    let n = c.points-n.ensures.many in
     let few = (kept t c.args.task.now.draft.legal).points_few in
     record { room = omega (arith, n, c.len.ensures, c.if-len-n.false); noted = omega (arith, few, c.access_notes-notes.ensures.room) }
 
 pub settle_one-conflicts-requires : goal.settle_one-conflicts-requires
 settle_one-conflicts-requires c =
     let t = contents c.args.task.now in
-    let n = many c.points-n.result.now t.points c.points-n.ensures in
+    let n = c.points-n.ensures.many in
     let few = (kept t c.args.task.now.draft.legal).points_few in
     record { room = omega (arith, n, c.len.ensures, c.if-len-n.false); noted = omega (arith, few, c.access_notes-notes.ensures.room) }
 
 pub settle_one-widest-requires : goal.settle_one-widest-requires
 settle_one-widest-requires c =
     let t = contents c.args.task.now in
-    let n = many c.points-n.result.now t.points c.points-n.ensures in
+    let n = c.points-n.ensures.many in
     let few = (kept t c.args.task.now.draft.legal).points_few in
     record { room = omega (arith, n, c.len.ensures, c.if-len-n.false); noted = omega (arith, few, c.use_notes-uses.ensures.room) }
 
 pub returns : goal.returns
 returns c =
     let t = contents c.args.task.now in
-    let n = many c.points-n.result.now t.points c.points-n.ensures in
+    let n = c.points-n.ensures.many in
     let few = (kept t c.args.task.now.draft.legal).blocks_few in
     let notes = c.access_notes-notes.result in
     let e = c.access_notes-notes.ensures.notes in

@@ -18,17 +18,17 @@ parts : (shown : List Point) (t : TaskContents) → all_contents shown ≡ t.poi
 parts shown t e = points_first shown t.points (last_fields t.evicting) e
 
 pub put_all-at-requires : goal.put_all-at-requires
-put_all-at-requires c = let t = contents c.args.task.now in first_fits (points_bytes c.points.result.now) (last t) _ c.args.out.now (parts c.points.result.now t c.points.ensures) c.requires
+put_all-at-requires c = let t = contents c.args.task.now in first_fits (points_bytes c.points.result.now) (last t) _ c.args.out.now (parts c.points.result.now t c.points.ensures.value) c.requires
 
 pub put_last-requires : goal.put_last-requires
 put_last-requires c =
     let t = contents c.args.task.now in
     let b = ap (λ (bs : List ℕ). length (flat_map field_bytes (last_fields bs))) c.evicting.ensures in
-    let f = second_fits (points_bytes c.points.result.now) (last t) _ c.args.out.now c.put_all-at.new.out c.put_all-at.result (parts c.points.result.now t c.points.ensures) c.requires c.put_all-at.ensures in
+    let f = second_fits (points_bytes c.points.result.now) (last t) _ c.args.out.now c.put_all-at.new.out c.put_all-at.result (parts c.points.result.now t c.points.ensures.value) c.requires c.put_all-at.ensures in
     omega arith
 
 pub returns : goal.returns
 returns c =
     let t = contents c.args.task.now in
-    two_parts (points_bytes c.points.result.now) (last t) _ c.args.out.now c.put_all-at.new.out c.put_last.new.out c.put_all-at.result c.put_last.result (parts c.points.result.now t c.points.ensures) c.requires c.put_all-at.ensures
+    two_parts (points_bytes c.points.result.now) (last t) _ c.args.out.now c.put_all-at.new.out c.put_last.new.out c.put_all-at.result c.put_last.result (parts c.points.result.now t c.points.ensures.value) c.requires c.put_all-at.ensures
     (filled_as _ _ _ _ _ (ap (λ (bs : List ℕ). flat_map field_bytes (last_fields bs)) c.evicting.ensures) c.put_last.ensures)

@@ -15,24 +15,20 @@ use Rattle.fixpoint.specs.Settled.{Settled}
 use Rattle.fixpoint.proofs.Steps.{length_after_rounds}
 use Rattle.fixpoint.proofs.table.Table.settle.Goals as goal
 
--- as many points as the task has
-many : (shown : List Point) (points : List PointContents) → all_contents shown ≡ points → length shown ≡ length points
-many shown points e = sym (length-map shown point_contents) ∙ ap length e
-
 pub returns-then-self-n : goal.returns-then-self-n
 returns-then-self-n g c =
-    let n = many c.points-points.result.now (contents c.args.task.now).points c.points-points.ensures in
+    let n = c.points-points.ensures.many in
     record { answer = record { short = ⊎_elim (λ a. inl (omega arith)) (λ b. inr (omega arith)) c.then-self-n.either; same = refl }; lent = refl }
 
 pub invariant_of-solver : goal.invariant_of-solver
 invariant_of-solver g c =
-    let n = many c.points-points.result.now (contents c.args.task.now).points c.points-points.ensures in
+    let n = c.points-points.ensures.many in
     record { noted = length-take-le (length c.points-points.result.now - 0) c.args.notes.now (omega arith) ∙ omega arith }
 
 pub run-requires : goal.run-requires
 run-requires g c =
     let t = contents c.args.task.now in
-    let n = many c.points-points.result.now t.points c.points-points.ensures in
+    let n = c.points-points.ensures.many in
     let few = (kept t c.args.task.now.draft.legal).points_few in
     let k = length c.points-points.result.now - 0 in
     record {
@@ -49,10 +45,10 @@ returns g c =
     let before = c.args.self.now.rows.now in
     let after = c.run.new.rows in
     let k = length t.points in
-    let n = many shown t.points c.points-points.ensures in
+    let n = c.points-points.ensures.many in
     let same : length shown - 0 ≡ k = omega arith in
     let jobs : job_of c.args.direction (all_contents shown) (take (length shown - 0) notes) ≡ job c.args.direction t notes =
-    ap (λ (m : ℕ). job_of c.args.direction (all_contents shown) (take m notes)) same ∙ ap (λ (ps : List PointContents). job_of c.args.direction ps (take k notes)) c.points-points.ensures in
+    ap (λ (m : ℕ). job_of c.args.direction (all_contents shown) (take m notes)) same ∙ ap (λ (ps : List PointContents). job_of c.args.direction ps (take k notes)) c.points-points.ensures.value in
     let value : after ≡ after_rounds M (job c.args.direction t notes) c.run.result = c.run.ensures.value ∙ ap (λ (J : Job g.row.K-Note.Denot). after_rounds M J c.run.result) jobs in
     let len : length after ≡ k = ap length value ∙ length_after_rounds M (job c.args.direction t notes) c.run.result in
     let first = take_at after (post_of 0 (length shown - 0) before) k len in

@@ -25,20 +25,20 @@ returns-in_err-get c =
     let l = length-map c.points.result.now point_contents in
     let past = ltb-false _ _ (sym c.in_err-get.ensures.lookup.0) in
     c.from_residual.ensures
-    ∙ sym (ap (access_index (distinct_blocks ps)) (access_past ps c.args.point (omega (arith, ap length c.points.ensures))))
+    ∙ sym (ap (access_index (distinct_blocks ps)) (access_past ps c.args.point (omega (arith, ap length c.points.ensures.value))))
 
 pub returns-in_err-block : goal.returns-in_err-block
 returns-in_err-block c =
     let ps = (contents c.args.self.now).points in
     let at = c.in_ok-get.ensures.lookup in
-    let here = found _ ps c.args.point c.in_ok-get.field-0.now c.points.ensures (ltb-true _ _ (sym at.0)) at.1 in
+    let here = found _ ps c.args.point c.in_ok-get.field-0.now c.points.ensures.value (ltb-true _ _ (sym at.0)) at.1 in
     c.from_residual-in_err-block.ensures ∙ sym (ap (access_index (distinct_blocks ps)) (here ∙ sym c.in_err-block.ensures))
 
 pub returns : goal.returns
 returns c =
     let ps = (contents c.args.self.now).points in
     let at = c.in_ok-get.ensures.lookup in
-    let here = found _ ps c.args.point c.in_ok-get.field-0.now c.points.ensures (ltb-true _ _ (sym at.0)) at.1 in
+    let here = found _ ps c.args.point c.in_ok-get.field-0.now c.points.ensures.value (ltb-true _ _ (sym at.0)) at.1 in
     c.index_of.ensures
     ∙ ap (first_from 0 (eqb c.in_ok-block.block)) c.blocks-2.ensures.value
     ∙ sym (ap (access_index (distinct_blocks ps)) (here ∙ sym c.in_ok-block.ensures))
