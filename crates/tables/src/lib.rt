@@ -6,9 +6,9 @@ mod methods;
 mod notes;
 mod settle;
 
-pub use memory::TableMemory;
 use conflicts::Conflicts;
 use fixpoint::table::Table;
+pub use memory::TableMemory;
 use rowkinds::ages::Ages;
 use widest::next_uses::NextUses;
 

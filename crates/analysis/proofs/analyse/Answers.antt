@@ -1,9 +1,7 @@
-use Rattle.std.proofs.Common.{◌≡◌, ℕ, ◌-◌, ◌++◌, length, drop, sym, refl, ap, ◌∙◌, inl, arith}
-use lib.ListN.{length-map}
+use Rattle.std.proofs.Common.{◌≡◌, ℕ, ◌-◌, ◌++◌, length, drop, refl, ap, ◌∙◌, inl, arith}
 use borrow.Rule.Slice.PartMut.{post_of}
 use Rattle.std.proofs.lemmas.List.{take_at}
 use Rattle.std.proofs.lemmas.Slice.{drop-append-drop}
-use Rattle.task.specs.Meaning.{point_contents}
 use Rattle.task.specs.Tasks.{contents}
 use Rattle.task.proofs.Drafting.{kept}
 use Rattle.tables.specs.Rows.{rows_of}

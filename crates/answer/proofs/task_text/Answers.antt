@@ -1,6 +1,4 @@
-use Rattle.std.proofs.Common.{◌≡◌, ℕ, ◌-◌, length, take, IfOk, string_bytes, sym, ap, ◌∙◌, subst, arith}
-use lib.ListN.{length-map}
-use Rattle.task.specs.Meaning.{point_contents}
+use Rattle.std.proofs.Common.{◌≡◌, ℕ, ◌-◌, length, take, IfOk, string_bytes, ap, ◌∙◌, subst, arith}
 use Rattle.task.specs.Tasks.{contents}
 use Rattle.task.proofs.Drafting.{kept}
 use Rattle.analysis.specs.Sheets.{largest, sheet}

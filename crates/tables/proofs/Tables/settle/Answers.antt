@@ -1,48 +1,11 @@
-use Rattle.std.proofs.Common.{◌≡◌, List, length, take, sym, refl, ap, ◌∙◌, arith}
-use lib.ListN.{length-map}
-use Rattle.task.specs.Contents.{PointContents}
-use Rattle.task.specs.Meaning.{all_contents, point_contents}
+use Rattle.std.proofs.Common.{◌≡◌, length, take, arith}
 use Rattle.task.specs.Tasks.{contents}
-use Rattle.task.specs.declared.point.Point.{Point}
 use Rattle.task.proofs.Drafting.{kept}
 use Rattle.fixpoint.specs.declared.direction.Direction.TheVariants.{Forward, Backward}
 use Rattle.conflicts.specs.Conflicts.{conflicts_meaning}
 use Rattle.tables.specs.Tables.{use_notes}
 use Rattle.tables.proofs.Settles.{ages_settle, conflicts_settle, widest_settle, solved_room}
 use Rattle.tables.proofs.Tables.settle.Goals as goal
-
-pub returns-then-len-n : goal.returns-then-len-n
-returns-then-len-n c =
-    let n = c.points-n.ensures.many in
-    record { answer = (omega (arith, n, c.len.ensures, c.if-len-n.true), refl); lent = record { ages = refl; reuses = refl; conflicts = refl; widest = refl } }
-
-pub settle_one-ages-requires : goal.settle_one-ages-requires
-settle_one-ages-requires c =
-    let t = contents c.args.task.now in
-    let n = c.points-n.ensures.many in
-    let few = (kept t c.args.task.now.draft.legal).points_few in
-    record { room = omega (arith, n, c.len.ensures, c.if-len-n.false); noted = omega (arith, few, c.access_notes-notes.ensures.room) }
-
-pub settle_one-reuses-requires : goal.settle_one-reuses-requires
-settle_one-reuses-requires c =
-    let t = contents c.args.task.now in
-    let n = c.points-n.ensures.many in
-    let few = (kept t c.args.task.now.draft.legal).points_few in
-    record { room = omega (arith, n, c.len.ensures, c.if-len-n.false); noted = omega (arith, few, c.access_notes-notes.ensures.room) }
-
-pub settle_one-conflicts-requires : goal.settle_one-conflicts-requires
-settle_one-conflicts-requires c =
-    let t = contents c.args.task.now in
-    let n = c.points-n.ensures.many in
-    let few = (kept t c.args.task.now.draft.legal).points_few in
-    record { room = omega (arith, n, c.len.ensures, c.if-len-n.false); noted = omega (arith, few, c.access_notes-notes.ensures.room) }
-
-pub settle_one-widest-requires : goal.settle_one-widest-requires
-settle_one-widest-requires c =
-    let t = contents c.args.task.now in
-    let n = c.points-n.ensures.many in
-    let few = (kept t c.args.task.now.draft.legal).points_few in
-    record { room = omega (arith, n, c.len.ensures, c.if-len-n.false); noted = omega (arith, few, c.use_notes-uses.ensures.room) }
 
 pub returns : goal.returns
 returns c =

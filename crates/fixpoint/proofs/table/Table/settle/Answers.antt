@@ -1,13 +1,11 @@
 use Rattle.std.proofs.Common.{◌≡◌, ℕ, ◌-◌, List, ◌++◌, length, take, drop, sym, refl, ap, ◌∙◌, subst, inl, inr, ⊎_elim, arith}
-use lib.ListN.{length-map}
 use borrow.Rule.Slice.PartMut.{post_of}
 use Rattle.std.specs.List.{AllByRecursion}
 use Rattle.std.proofs.lemmas.List.{length-take-le, take_at}
 use Rattle.std.proofs.lemmas.Slice.{drop-append-drop}
 use Rattle.task.specs.Contents.{PointContents}
-use Rattle.task.specs.Meaning.{all_contents, point_contents}
+use Rattle.task.specs.Meaning.{all_contents}
 use Rattle.task.specs.Tasks.{contents}
-use Rattle.task.specs.declared.point.Point.{Point}
 use Rattle.task.proofs.Drafting.{kept}
 use Rattle.fixpoint.specs.Answers.{job}
 use Rattle.fixpoint.specs.Rounds.{Job, after_rounds, job_of}
