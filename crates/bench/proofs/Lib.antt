@@ -4,3 +4,4 @@ mod Steps
 mod Turns
 mod Explaining
 mod Finding
+mod Made

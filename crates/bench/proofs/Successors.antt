@@ -1,6 +1,5 @@
 -- The successors of a point, and its access. Assumes nothing.
-use Rattle.std.proofs.Common.{◌≡◌, ℕ, zero, suc, ◌+◌, ◌<◌, ◌≤◌, true, false, ltb, List, [], ◌∷◌, length, get_or, drop, None, sym, refl, ◌∙◌, arith}
-use Rattle.std.proofs.lemmas.List.{at_drop_more, at_drop_all}
+use Rattle.std.proofs.Common.{◌≡◌, ℕ, zero, suc, ◌<◌, true, ltb, List, [], ◌∷◌, length, get_or, None, refl, arith}
 use Rattle.std.proofs.lemmas.Bool.{and_parts, ltb-true}
 use Rattle.std.proofs.lemmas.Bool.Decides.{nat_tests}
 use Rattle.recency.specs.Blocks.{has}
@@ -27,14 +26,3 @@ closed_at n (x ∷ ps) (suc p) h = closed_at n ps p (and_parts _ _ h).1
 -- a successor is a point of the task
 pub successor_inside : (ps : List PointContents) (p q : ℕ) → complete ps ≡ true → has q (successors_at ps p) ≡ true → q < length ps
 successor_inside ps p q h = below (length ps) q (successors_at ps p) (closed_at (length ps) ps p (and_parts _ _ h).1)
-
--- a search in a list, at index i
-module _ (b i : ℕ) (xs : List ℕ) (rest : has b (drop i xs) ≡ has b xs) where
-  pub met : i < length xs → get_or xs i 0 ≡ b → true ≡ has b xs
-  met l e = let m = at_drop_more (has b) xs i 0 l in grind (arith, nat_tests)
-
-  pub passed : i < length xs → (get_or xs i 0 ≡ b → ⊥) → has b (drop (i + 1) xs) ≡ has b xs
-  passed l e = let m = at_drop_more (has b) xs i 0 l in grind (arith, nat_tests)
-
-  pub not_met : length xs ≤ i → false ≡ has b xs
-  not_met l = sym (at_drop_all (has b) xs i l) ∙ rest

@@ -2,7 +2,6 @@
 use Rattle.std.specs.Prelude.{◌≡◌, ℕ, Bool, true, false, List, Some, None, Ok, Err, Option, Result}
 use Rattle.recency.specs.Rows.{row_step}
 use Rattle.task.specs.Contents.{TaskContents}
-use Rattle.task.specs.Tasks.{contents}
 use Rattle.tables.specs.Answers.{AllSettled}
 use Rattle.tables.specs.Rows.{Rows}
 use Rattle.tables.specs.declared.Rounds.{Rounds}
@@ -12,18 +11,19 @@ use Rattle.cache.specs.declared.Cache.{Ghosts}
 use Rattle.cache.specs.declared.outcome.Outcome.{Outcome}
 use Rattle.cache.specs.declared.outcome.Outcome.TheVariants.{Hit, Miss}
 use Rattle.ledger.specs.Ledger.{Setting, Ledger, accessed, after, barred, cause, ledger_with}
-use Rattle.ledger.specs.Histories.{Heard, Honest, ledger_of, row_after}
+use Rattle.ledger.specs.Histories.{Heard, Honest, LoadsWithin, ledger_of, row_after}
 use Rattle.ledger.specs.declared.Call.{Call}
+use Rattle.ledger.specs.declared.State.{State}
 use Rattle.ledger.specs.declared.Call.TheVariants.{Step, Finish, Interrupt, Touch, Resume}
 use Rattle.bench.specs.Faults.{fault_number}
-use Rattle.bench.specs.Keeping.{setting_with}
+use Rattle.bench.specs.Keeping.{setting_in}
 use Rattle.bench.specs.declared.Bench.{Bench}
 use Rattle.bench.specs.declared.answer.Answer.{Answer}
 use Rattle.bench.specs.declared.answer.Answer.TheVariants.{Access, NoAccess, Done}
 use Rattle.bench.specs.declared.fault.BenchFault.{BenchFault}
 
 abbrev pub setting_of : {C : Type 0} {g : Ghosts C} → Bench C g → Setting
-setting_of b = setting_with (contents b.task.now) b.room b.sets b.life
+setting_of b = setting_in b.setup
 
 abbrev pub ledger_in : {C : Type 0} {g : Ghosts C} → Bench C g → Ledger
 ledger_in b = ledger_with b.state b.point b.counts (lru_row b.plain)
@@ -75,16 +75,16 @@ abbrev pub Stays : {X : Type 0} → Result Answer BenchFault → X → X → Typ
 Stays (Ok a) before after = Unit {0}
 Stays (Err f) before after = after ≡ before
 
-module _ {C : Type 0} (sets life : C → ℕ) (holds : C → ℕ → Bool) (vouches : C → List (List ℕ) → Type 0) where
+module _ {C : Type 0} (g : Ghosts C) where
   -- the cache after an access of a block, or as it was
   abbrev pub Accesses : Option ℕ → C → C → Type 0
   Accesses None c d = d ≡ c
   Accesses (Some b) c d =
-      (sets d ≡ sets c) × (life d ≡ life c) × (holds d b ≡ true) × ((row : List (List ℕ)) → vouches c row → vouches d (row_step (sets c) (life c) b row))
+      (g.sets d ≡ g.sets c) × (g.life d ≡ g.life c) × (g.holds d b ≡ true) × ((row : List (List ℕ)) → g.vouches c row → g.vouches d (row_step (g.sets c) (g.life c) b row))
 
   -- a call, from one cache and ledger to the next
   pub record Called (S : Setting) (call : Call) (c : C) (L : Ledger) (r : Result Answer BenchFault) (d : C) (M : Ledger) : Type 0 where
-    pub says : Says (cause S L call) (accessed S L call) call (holds c) r
+    pub says : Says (cause S L call) (accessed S L call) call (g.holds c) r
     pub counts : M ≡ after S L call (said_hit r)
     pub accesses : Accesses (accessed S L call) c d
 
@@ -94,13 +94,33 @@ module _ {C : Type 0} (sets life : C → ℕ) (holds : C → ℕ → Bool) (vouc
     pub history : List Heard
     pub ledger : ledger_of S history ≡ L
     pub honest : Honest S history
-    pub same_sets : sets c ≡ S.sets
-    pub same_life : life c ≡ S.life
-    pub vouched : vouches c (row_after S history)
+    pub same_sets : g.sets c ≡ S.sets
+    pub same_life : g.life c ≡ S.life
+    pub vouched : g.vouches c (row_after S history)
 
+module _ {C : Type 0} {g : Ghosts C} where
   -- the same, of a bench
-  abbrev pub Calls : {g : Ghosts C} → Bench C g → Call → Result Answer BenchFault → Bench C g → Type 0
-  Calls b call r d = Called (setting_of b) call b.cache (ledger_in b) r d.cache (ledger_in d)
+  abbrev pub Calls : Bench C g → Call → Result Answer BenchFault → Bench C g → Type 0
+  Calls b call r d = Called g (setting_of b) call b.cache (ledger_in b) r d.cache (ledger_in d)
 
-  abbrev pub IsExplained : {g : Ghosts C} → Bench C g → Type 0
-  IsExplained b = Explained (setting_of b) b.cache (ledger_in b)
+  abbrev pub IsExplained : Bench C g → Type 0
+  IsExplained b = Explained g (setting_of b) b.cache (ledger_in b)
+
+  -- nothing bars the bench, and it is in this state
+  pub record IsOpenIn (b : Bench C g) (s : State) : Type 0 where
+    pub unbarred : barred (setting_of b) ≡ None
+    pub state : b.state ≡ s
+
+  -- what a bench does at a call
+  pub record Performs (b : Bench C g) (call : Call) (r : Result Answer BenchFault) (d : Bench C g) : Type 0 where
+    pub called : Calls b call r d
+    pub setting : setting_of d ≡ setting_of b
+    pub refused : Stays r b d
+
+  -- and what follows from it, where the bench came from a new one by calls
+  pub record Obeys (b : Bench C g) (call : Call) (r : Result Answer BenchFault) (d : Bench C g) : Type 0 where
+    pub called : Calls b call r d
+    pub setting : setting_of d ≡ setting_of b
+    pub refused : Stays r b d
+    pub explained : IsExplained b → IsExplained d
+    pub bounded : IsExplained d → LoadsWithin (ledger_in d)

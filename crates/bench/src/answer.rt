@@ -1,7 +1,7 @@
 use cache::outcome::Outcome;
 
 // What an obeyed call says.
-#[derive(Clone, Copy)]
+#[derive(Clone, Copy, Debug, PartialEq, Eq)]
 pub enum Answer {
     // The cache's hit or miss.
     Access(Outcome),

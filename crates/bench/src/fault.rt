@@ -2,7 +2,7 @@ ghost use Rattle.std.specs.Prelude.{◌≡◌};
 ghost use Rattle.bench.specs.Faults.{fault_number};
 
 // Why a call is refused. The first three bar every call of a bench.
-#[derive(Clone, Copy)]
+#[derive(Clone, Copy, Debug, PartialEq, Eq)]
 pub enum BenchFault {
     // A table is shorter than the points.
     ShortTable = 10,

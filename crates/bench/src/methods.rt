@@ -10,6 +10,7 @@ ghost use Rattle.bench.specs.Keeping.{setting_with};
 
 use crate::Bench;
 use crate::keeping::kept_numbers;
+use crate::setup::Setup;
 use cache::Cache;
 use cache::lru::Lru;
 use ledger::{Counts, State};
@@ -25,28 +26,22 @@ impl<'t, C: Cache> Bench<'t, C> {
         ensures cache { result.cache ≡ cache }
         ensures tables { Built (setting_of result) (rows_of tables.old) (rows_of tables.new) }
         ensures lent { SameMemory tables.old tables.new }
-        ensures explained { IsExplained C.sets C.life C.holds C.vouches result }
+        ensures explained { IsExplained result }
     {
-        let room = tables.len();
-        let sets = cache.sets();
-        let life = cache.life();
-        let resilient = kept_numbers(task, tables, room, sets, life);
-        Bench {
+        let setup = Setup {
             task,
+            room: tables.len(),
+            sets: cache.sets(),
+            life: cache.life(),
+        };
+        let resilient = kept_numbers(&setup, tables);
+        Bench {
+            setup,
             cache,
-            room,
-            sets,
-            life,
             resilient,
             state: State::Walking,
             point: 0,
-            counts: Counts {
-                steps: 0,
-                interruptions: 0,
-                loads: 0,
-                plain: 0,
-                charge: 0,
-            },
+            counts: Counts::default(),
             plain: empty_lists(task),
         }
     }
@@ -72,8 +67,5 @@ fn empty_lists(task: &Task) -> Lru
     ensures empty { lru_row result ≡ empty_row (contents task.now).sets }
 {
     let parameters = task.parameters();
-    match Lru::new(parameters.sets, parameters.ways) {
-        Ok(lists) => lists,
-        Err(_) => unreachable(),
-    }
+    Lru::new(parameters.sets, parameters.ways).unwrap()
 }

@@ -70,24 +70,13 @@ fn task_of(
     points: &[(Option<u32>, &[u8])],
     evicting: u32,
 ) -> Result<Task, Fail> {
-    let Ok(mut draft) = TaskDraft::new(heap, cache) else {
-        return Err(Fail::new("no draft"));
-    };
+    let mut draft = TaskDraft::new(heap, cache)?;
     for (access, successors) in points {
-        let Some(point) = Point::new(*access, successors) else {
-            return Err(Fail::new("no point"));
-        };
-        let Ok(()) = draft.add_point(point) else {
-            return Err(Fail::new("no room"));
-        };
+        let point = Point::new(*access, successors).ok_or_else(|| Fail::new("no point"))?;
+        draft.add_point(point)?;
     }
-    let Ok(()) = draft.add_evicting(evicting) else {
-        return Err(Fail::new("no evicting block"));
-    };
-    match draft.finish() {
-        Ok(task) => Ok(task),
-        Err(_) => Err(Fail::new("no task")),
-    }
+    draft.add_evicting(evicting)?;
+    draft.finish().map_err(|_| Fail::new("no task"))
 }
 
 // Points 0 to 3 access 8 to 11 in a loop, which fills the set; point 4 is the exit.
@@ -124,15 +113,19 @@ fn loop_of_two(heap: Global) -> Result<Task, Fail> {
     )
 }
 
-// 1 a hit, 2 a miss, 3 no access, 4 done, or the number of the refusal.
-fn said(answer: Result<Answer, BenchFault>) -> u8 {
-    match answer {
-        Ok(Answer::Access(Outcome::Hit)) => 1,
-        Ok(Answer::Access(Outcome::Miss)) => 2,
-        Ok(Answer::NoAccess) => 3,
-        Ok(Answer::Done) => 4,
-        Err(fault) => fault.number(),
-    }
+// What a call says, a refusal by its number.
+type Said = Result<Answer, u8>;
+
+const HIT: Said = Ok(Answer::Access(Outcome::Hit));
+
+const MISS: Said = Ok(Answer::Access(Outcome::Miss));
+
+const NO_ACCESS: Said = Ok(Answer::NoAccess);
+
+const DONE: Said = Ok(Answer::Done);
+
+fn said(answer: Result<Answer, BenchFault>) -> Said {
+    answer.map_err(BenchFault::number)
 }
 
 // Makes the calls on a bench with tables of so many rows, and holds each answer to what is expected.
@@ -141,7 +134,7 @@ fn check_calls<C: Cache + Drop>(
     task: &Task,
     rows: usize,
     cache: C,
-    calls: &[(Call, u8)],
+    calls: &[(Call, Said)],
 ) -> Counts {
     let mut ages = [AgeKind::of(task).start(); 5];
     let mut reuses = ages;
@@ -168,20 +161,20 @@ fn check_counts(rt: &impl Abort, counts: Counts, expected: [u32; 5]) {
 }
 
 // Once round the loop of four, an interruption at its begin, and once more round.
-fn interrupted_loop(first: u8, second: u8) -> [(Call, u8); 12] {
+fn interrupted_loop(first: Said, second: Said) -> [(Call, Said); 12] {
     [
         (Call::Step(1), first),
         (Call::Step(2), first),
         (Call::Step(3), first),
         (Call::Step(0), first),
-        (Call::Interrupt, 4),
-        (Call::Touch(14), 2),
-        (Call::Resume, 4),
+        (Call::Interrupt, DONE),
+        (Call::Touch(14), MISS),
+        (Call::Resume, DONE),
         (Call::Step(1), second),
         (Call::Step(2), second),
         (Call::Step(3), second),
         (Call::Step(0), second),
-        (Call::Step(4), 18),
+        (Call::Step(4), Err(18)),
     ]
 }
 
@@ -189,14 +182,26 @@ fn interrupted_loop(first: u8, second: u8) -> [(Call, u8); 12] {
 #[test]
 fn loop_on_three_caches(rt: HostRuntime) -> Result<(), Fail> {
     let task = loop_of_four(rt.alloc())?;
-    let lru = check_calls(&rt, &task, 5, Lru::new(1, 4)?, &interrupted_loop(2, 2));
+    let lru = check_calls(
+        &rt,
+        &task,
+        5,
+        Lru::new(1, 4)?,
+        &interrupted_loop(MISS, MISS),
+    );
     check_counts(&rt, lru, [8, 1, 8, 4, 4]);
-    let tree = check_calls(&rt, &task, 5, Plru::new(1, 8)?, &interrupted_loop(2, 1));
+    let tree = check_calls(
+        &rt,
+        &task,
+        5,
+        Plru::new(1, 8)?,
+        &interrupted_loop(MISS, HIT),
+    );
     check_counts(&rt, tree, [8, 1, 4, 4, 4]);
     let forgetful = Forgetful {
         lists: Lru::new(1, 4)?,
     };
-    let counts = check_calls(&rt, &task, 5, forgetful, &interrupted_loop(2, 2));
+    let counts = check_calls(&rt, &task, 5, forgetful, &interrupted_loop(MISS, MISS));
     check_counts(&rt, counts, [8, 1, 8, 4, 4]);
     Ok(())
 }
@@ -205,17 +210,17 @@ fn loop_on_three_caches(rt: HostRuntime) -> Result<(), Fail> {
 #[test]
 fn one_way_on_fifo(rt: HostRuntime) -> Result<(), Fail> {
     let task = loop_of_two(rt.alloc())?;
-    for (forgets, again, loads) in [(false, 1, 2), (true, 2, 3)] {
+    for (forgets, again, loads) in [(false, HIT, 2), (true, MISS, 3)] {
         let calls = [
-            (Call::Step(1), 2),
-            (Call::Step(0), 2),
-            (Call::Interrupt, 4),
-            (Call::Touch(6), 2),
-            (Call::Resume, 4),
+            (Call::Step(1), MISS),
+            (Call::Step(0), MISS),
+            (Call::Interrupt, DONE),
+            (Call::Touch(6), MISS),
+            (Call::Resume, DONE),
             (Call::Step(1), again),
-            (Call::Step(2), 1),
-            (Call::Finish, 3),
-            (Call::Interrupt, 23),
+            (Call::Step(2), HIT),
+            (Call::Finish, NO_ACCESS),
+            (Call::Interrupt, Err(23)),
         ];
         let counts = if forgets {
             let lists = Lru::new(2, 1)?;
@@ -229,13 +234,13 @@ fn one_way_on_fifo(rt: HostRuntime) -> Result<(), Fail> {
 }
 
 // What every call is told.
-fn all_refused(number: u8) -> [(Call, u8); 5] {
+fn all_refused(number: u8) -> [(Call, Said); 5] {
     [
-        (Call::Step(1), number),
-        (Call::Finish, number),
-        (Call::Interrupt, number),
-        (Call::Touch(14), number),
-        (Call::Resume, number),
+        (Call::Step(1), Err(number)),
+        (Call::Finish, Err(number)),
+        (Call::Interrupt, Err(number)),
+        (Call::Touch(14), Err(number)),
+        (Call::Resume, Err(number)),
     ]
 }
 
@@ -270,28 +275,28 @@ fn barred_benches(rt: HostRuntime) -> Result<(), Fail> {
 fn causes(rt: HostRuntime) -> Result<(), Fail> {
     let task = loop_of_four(rt.alloc())?;
     let calls = [
-        (Call::Touch(14), 17),
-        (Call::Resume, 17),
-        (Call::Step(3), 18),
-        (Call::Step(200), 18),
-        (Call::Finish, 19),
-        (Call::Interrupt, 4),
-        (Call::Step(3), 16),
-        (Call::Finish, 16),
-        (Call::Interrupt, 16),
-        (Call::Touch(8), 20),
-        (Call::Resume, 4),
-        (Call::Step(1), 2),
-        (Call::Step(2), 2),
-        (Call::Step(3), 2),
-        (Call::Step(4), 2),
-        (Call::Step(0), 18),
-        (Call::Finish, 3),
-        (Call::Step(0), 23),
-        (Call::Finish, 23),
-        (Call::Interrupt, 23),
-        (Call::Touch(14), 23),
-        (Call::Resume, 23),
+        (Call::Touch(14), Err(17)),
+        (Call::Resume, Err(17)),
+        (Call::Step(3), Err(18)),
+        (Call::Step(200), Err(18)),
+        (Call::Finish, Err(19)),
+        (Call::Interrupt, DONE),
+        (Call::Step(3), Err(16)),
+        (Call::Finish, Err(16)),
+        (Call::Interrupt, Err(16)),
+        (Call::Touch(8), Err(20)),
+        (Call::Resume, DONE),
+        (Call::Step(1), MISS),
+        (Call::Step(2), MISS),
+        (Call::Step(3), MISS),
+        (Call::Step(4), MISS),
+        (Call::Step(0), Err(18)),
+        (Call::Finish, NO_ACCESS),
+        (Call::Step(0), Err(23)),
+        (Call::Finish, Err(23)),
+        (Call::Interrupt, Err(23)),
+        (Call::Touch(14), Err(23)),
+        (Call::Resume, Err(23)),
     ];
     let counts = check_calls(&rt, &task, 5, Lru::new(1, 4)?, &calls);
     check_counts(&rt, counts, [5, 1, 4, 4, 4]);
@@ -310,18 +315,18 @@ fn limits(rt: HostRuntime) -> Result<(), Fail> {
     let mut bench = Bench::new(&task, &mut tables, Lru::new(1, 4)?);
     for i in 0..60_000 {
         if i < 999 {
-            assert_eq!(rt; said(bench.interrupt()), 4);
-            assert_eq!(rt; said(bench.resume()), 4);
+            assert_eq!(rt; said(bench.interrupt()), DONE);
+            assert_eq!(rt; said(bench.resume()), DONE);
         }
         let _ = bench.step((i + 1) % 4);
     }
-    assert_eq!(rt; said(bench.step(1)), 21);
-    assert_eq!(rt; said(bench.finish()), 21);
-    assert_eq!(rt; said(bench.interrupt()), 4);
-    assert_eq!(rt; said(bench.step(1)), 16);
-    assert_eq!(rt; said(bench.touch(14)), 2);
-    assert_eq!(rt; said(bench.resume()), 4);
-    assert_eq!(rt; said(bench.interrupt()), 22);
+    assert_eq!(rt; said(bench.step(1)), Err(21));
+    assert_eq!(rt; said(bench.finish()), Err(21));
+    assert_eq!(rt; said(bench.interrupt()), DONE);
+    assert_eq!(rt; said(bench.step(1)), Err(16));
+    assert_eq!(rt; said(bench.touch(14)), MISS);
+    assert_eq!(rt; said(bench.resume()), DONE);
+    assert_eq!(rt; said(bench.interrupt()), Err(22));
     check_counts(&rt, bench.read(), [60_000, 1_000, 4, 4, 4_000]);
     Ok(())
 }

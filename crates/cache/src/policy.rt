@@ -1,6 +1,6 @@
-ghost use Rattle.std.specs.Prelude.{◌≡◌, ℕ, ◌≤◌, List, length};
+ghost use Rattle.std.specs.Prelude.{◌≡◌, ℕ, ◌≤◌, List};
 ghost use Rattle.recency.specs.Blocks.{has};
-ghost use Rattle.cache.specs.BlockLists.{blocks_of};
+ghost use Rattle.cache.specs.BlockLists.{FitsWays, blocks_of};
 ghost use Rattle.cache.specs.Outcomes.{outcome_of};
 ghost use Rattle.cache.specs.Policies.{PolicyLaws};
 
@@ -23,9 +23,7 @@ pub trait Policy {
         ensures { result ≡ life ways };
 
     fn access(list: &mut BlockList, ways: u8, block: u32) -> Outcome
-        requires some { 1 ≤ ways }
-        requires few { ways ≤ 8 }
-        requires fits { length (blocks_of list.old) ≤ ways }
+        requires { FitsWays list.old ways }
         ensures hit { result ≡ outcome_of (has block (blocks_of list.old)) }
         ensures moved { blocks_of list.new ≡ step ways block (blocks_of list.old) };
 

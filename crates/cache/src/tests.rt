@@ -1,3 +1,4 @@
+use crate::fault::CacheFault;
 use crate::fifo::Fifo;
 use crate::lru::Lru;
 use crate::run::run_accesses;
@@ -23,10 +24,8 @@ fn misses_of_one_set(rt: HostRuntime) -> Result<(), Fail> {
 #[test]
 fn refused_sizes(rt: HostRuntime) -> Result<(), Fail> {
     for (sets, ways, number) in [(65, 9, 12), (0, 1, 12), (64, 9, 13), (1, 0, 13)] {
-        match Lru::new(sets, ways) {
-            Ok(_) => return Err(Fail::new("made")),
-            Err(fault) => assert_eq!(rt; fault.number(), number),
-        }
+        let refused = Lru::new(sets, ways).err().map(CacheFault::number);
+        assert_eq!(rt; refused, Some(number));
     }
     Ok(())
 }

@@ -1,9 +1,10 @@
 -- One more call on a run. Assumes nothing.
-use Rattle.std.proofs.Common.{◌≡◌, ℕ, Bool, List, [], ◌∷◌, ◌++◌, Some, None, Option, sym, refl, ap, ◌∙◌, subst}
+use Rattle.std.proofs.Common.{◌≡◌, ℕ, List, [], ◌∷◌, ◌++◌, Some, None, Option, sym, refl, ap, ◌∙◌, subst, append_assoc}
 use Rattle.std.specs.List.{AllByRecursion as All}
 use Rattle.std.proofs.lemmas.List.{append-nil}
 use Rattle.recency.specs.Rows.{row_run, row_step}
 use Rattle.recency.proofs.Runs.{run_append}
+use Rattle.cache.specs.declared.Cache.{Ghosts}
 use Rattle.ledger.specs.Ledger.{Setting, Ledger, accessed, after}
 use Rattle.ledger.specs.declared.Call.{Call}
 use Rattle.bench.specs.Benches.{Accesses, Called, said_hit}
@@ -14,16 +15,12 @@ pub all_more : (P : Played → Type 0) (xs : List Played) (x : Played) → All P
 all_more P [] x h k = (k, tt)
 all_more P (y ∷ ys) x h k = (h.0, all_more P ys x h.1 k)
 
-append_assoc : (xs ys zs : List ℕ) → ((xs ++ ys) ++ zs) ≡ (xs ++ (ys ++ zs))
-append_assoc [] ys zs = refl
-append_assoc (x ∷ xs) ys zs = ap (λ l. x ∷ l) (append_assoc xs ys zs)
-
-module _ {C : Type 0} (sets life : C → ℕ) (holds : C → ℕ → Bool) (vouches : C → List (List ℕ) → Type 0) where
+module _ {C : Type 0} (g : Ghosts C) where
   pub plays_more : (S : Setting) (calls : List Call) (c : C) (L : Ledger) (played : List Played) (d : C) (M : Ledger) (call : Call) (x : Played) (e : C) (K : Ledger) →
-      Plays sets life holds vouches S calls c L played d M → Called sets life holds vouches S call d M x.answer e K → x.counts ≡ K.counts →
-      Plays sets life holds vouches S (calls ++ (call ∷ [])) c L (played ++ (x ∷ [])) e K
+      Plays g S calls c L played d M → Called g S call d M x.answer e K → x.counts ≡ K.counts →
+      Plays g S (calls ++ (call ∷ [])) c L (played ++ (x ∷ [])) e K
   plays_more S [] c L [] d M call x e K p k n =
-      (e, K, subst (λ (v : C). Called sets life holds vouches S call v L x.answer e K) p.0 (subst (λ (l : Ledger). Called sets life holds vouches S call d l x.answer e K) p.1 k), n, (refl, refl))
+      (e, K, subst (λ (v : C). Called g S call v L x.answer e K) p.0 (subst (λ (l : Ledger). Called g S call d l x.answer e K) p.1 k), n, (refl, refl))
   plays_more S [] c L (y ∷ played) d M call x e K p k n = absurd p
   plays_more S (call' ∷ calls) c L [] d M call x e K p k n = absurd p
   plays_more S (call' ∷ calls) c L (y ∷ played) d M call x e K p k n =
@@ -31,7 +28,7 @@ module _ {C : Type 0} (sets life : C → ℕ) (holds : C → ℕ → Bool) (vouc
 
   -- the accesses of the run, and that of the call
   accesses_more : (S : Setting) (calls : List Call) (c : C) (L : Ledger) (played : List Played) (d : C) (M : Ledger) (call : Call) (x : Played) →
-      Plays sets life holds vouches S calls c L played d M → accesses_of S L (calls ++ (call ∷ [])) (played ++ (x ∷ [])) ≡ accesses_of S L calls played ++ blocks_in (accessed S M call)
+      Plays g S calls c L played d M → accesses_of S L (calls ++ (call ∷ [])) (played ++ (x ∷ [])) ≡ accesses_of S L calls played ++ blocks_in (accessed S M call)
   accesses_more S [] c L [] d M call x p = append-nil (blocks_in (accessed S L call)) ∙ ap (λ l. blocks_in (accessed S l call)) (sym p.1)
   accesses_more S [] c L (y ∷ played) d M call x p = absurd p
   accesses_more S (call' ∷ calls) c L [] d M call x p = absurd p
@@ -43,23 +40,23 @@ module _ {C : Type 0} (sets life : C → ℕ) (holds : C → ℕ → Bool) (vouc
       ∙ ap (λ l. blocks_in (accessed S L call') ++ (accesses_of S l calls played ++ blocks_in (accessed S M call))) (sym now)
       ∙ sym (append_assoc (blocks_in (accessed S L call')) (accesses_of S (after S L call' (said_hit y.answer)) calls played) (blocks_in (accessed S M call)))
 
-  pub same_sets : (o : Option ℕ) (c d : C) → Accesses sets life holds vouches o c d → sets d ≡ sets c
-  same_sets None c d a = ap sets a
+  pub same_sets : (o : Option ℕ) (c d : C) → Accesses g o c d → g.sets d ≡ g.sets c
+  same_sets None c d a = ap g.sets a
   same_sets (Some b) c d a = a.0
 
-  pub same_life : (o : Option ℕ) (c d : C) → Accesses sets life holds vouches o c d → life d ≡ life c
-  same_life None c d a = ap life a
+  pub same_life : (o : Option ℕ) (c d : C) → Accesses g o c d → g.life d ≡ g.life c
+  same_life None c d a = ap g.life a
   same_life (Some b) c d a = a.1
 
-  row_more : (s w : ℕ) (o : Option ℕ) (c d : C) (row : List (List ℕ)) → sets c ≡ s → life c ≡ w → Accesses sets life holds vouches o c d → vouches c row → vouches d (row_run s w (blocks_in o) row)
-  row_more s w None c d row es el a v = subst (λ (x : C). vouches x row) (sym a) v
-  row_more s w (Some b) c d row es el a v = subst (λ (k : ℕ). vouches d (row_step k w b row)) es (subst (λ (k : ℕ). vouches d (row_step (sets c) k b row)) el (a.3 row v))
+  row_more : (s w : ℕ) (o : Option ℕ) (c d : C) (row : List (List ℕ)) → g.sets c ≡ s → g.life c ≡ w → Accesses g o c d → g.vouches c row → g.vouches d (row_run s w (blocks_in o) row)
+  row_more s w None c d row es el a v = subst (λ (x : C). g.vouches x row) (sym a) v
+  row_more s w (Some b) c d row es el a v = subst (λ (k : ℕ). g.vouches d (row_step k w b row)) es (subst (λ (k : ℕ). g.vouches d (row_step (g.sets c) k b row)) el (a.3 row v))
 
   -- rows that were vouched for move with the call
-  pub rows_more : (S : Setting) (calls : List Call) (c : C) (L : Ledger) (played : List Played) (d : C) (M : Ledger) (call : Call) (x : Played) (e : C) (s w : ℕ) → sets d ≡ s → life d ≡ w →
-      Plays sets life holds vouches S calls c L played d M → Accesses sets life holds vouches (accessed S M call) d e → (row : List (List ℕ)) → vouches d (row_run s w (accesses_of S L calls played) row) →
-      vouches e (row_run s w (accesses_of S L (calls ++ (call ∷ [])) (played ++ (x ∷ []))) row)
+  pub rows_more : (S : Setting) (calls : List Call) (c : C) (L : Ledger) (played : List Played) (d : C) (M : Ledger) (call : Call) (x : Played) (e : C) (s w : ℕ) → g.sets d ≡ s → g.life d ≡ w →
+      Plays g S calls c L played d M → Accesses g (accessed S M call) d e → (row : List (List ℕ)) → g.vouches d (row_run s w (accesses_of S L calls played) row) →
+      g.vouches e (row_run s w (accesses_of S L (calls ++ (call ∷ [])) (played ++ (x ∷ []))) row)
   rows_more S calls c L played d M call x e s w es el p a row v =
-      subst (vouches e)
+      subst (g.vouches e)
       (sym (ap (λ bs. row_run s w bs row) (accesses_more S calls c L played d M call x p) ∙ run_append s w (accesses_of S L calls played) (blocks_in (accessed S M call)) row))
       (row_more s w (accessed S M call) d e (row_run s w (accesses_of S L calls played) row) es el a v)

@@ -1,7 +1,8 @@
 -- What a replay of a list of calls on a new bench gives, on any cache.
-use Rattle.std.specs.Prelude.{◌≡◌, ℕ, ◌+◌, ◌≤◌, Bool, List, [], ◌∷◌, ◌++◌, Some, None, Option}
+use Rattle.std.specs.Prelude.{◌≡◌, ℕ, ◌+◌, ◌≤◌, List, [], ◌∷◌, ◌++◌, Some, None, Option}
 use Rattle.std.specs.List.{AllByRecursion}
 use Rattle.recency.specs.Rows.{row_run}
+use Rattle.cache.specs.declared.Cache.{Ghosts}
 use Rattle.ledger.specs.Ledger.{Setting, Ledger, accessed, after, new_ledger}
 use Rattle.ledger.specs.Histories.{LoadsWithin}
 use Rattle.ledger.specs.declared.Call.{Call}
@@ -24,7 +25,7 @@ accesses_of S L (call ∷ calls) [] = []
 accesses_of S L (call ∷ calls) (x ∷ played) =
     blocks_in (accessed S L call) ++ accesses_of S (after S L call (said_hit x.answer)) calls played
 
-module _ {C : Type 0} (sets life : C → ℕ) (holds : C → ℕ → Bool) (vouches : C → List (List ℕ) → Type 0) where
+module _ {C : Type 0} (g : Ghosts C) where
   -- each call in turn, from one cache and ledger to the next: the refusals and counts are the ledger's, and each hit or miss
   -- is the cache's own
   abbrev pub Plays : Setting → List Call → C → Ledger → List Played → C → Ledger → Type 0
@@ -32,7 +33,7 @@ module _ {C : Type 0} (sets life : C → ℕ) (holds : C → ℕ → Bool) (vouc
   Plays S [] c L (x ∷ played) d M = ⊥
   Plays S (call ∷ calls) c L [] d M = ⊥
   Plays S (call ∷ calls) c L (x ∷ played) d M =
-      (next : C) × (K : Ledger) × Called sets life holds vouches S call c L x.answer next K × (x.counts ≡ K.counts) × Plays S calls next K played d M
+      (next : C) × (K : Ledger) × Called g S call c L x.answer next K × (x.counts ≡ K.counts) × Plays S calls next K played d M
 
   -- The theorem on a whole run. `follows`: the refusals and the counts are the ledger's, and each hit or miss the cache's own.
   -- `rows`: each row that the cache vouched for at first it vouches for at last, moved by the accesses of the obeyed calls
@@ -40,6 +41,6 @@ module _ {C : Type 0} (sets life : C → ℕ) (holds : C → ℕ → Bool) (vouc
   -- plus charge.
   pub record Replayed (S : Setting) (calls : List Call) (c : C) (played : List Played) (d : C) (M : Ledger) : Type 0 where
     pub follows : Plays S calls c (new_ledger S) played d M
-    pub rows : (row : List (List ℕ)) → vouches c row → vouches d (row_run (sets c) (life c) (accesses_of S (new_ledger S) calls played) row)
+    pub rows : (row : List (List ℕ)) → g.vouches c row → g.vouches d (row_run (g.sets c) (g.life c) (accesses_of S (new_ledger S) calls played) row)
     pub bounded : LoadsWithin M
     pub always : AllByRecursion (λ (x : Played). CountsWithin x.counts) played

@@ -11,7 +11,7 @@ use cache::Cache;
 use ledger::Counts;
 
 // What a call said, and the counts after it.
-#[derive(Clone, Copy)]
+#[derive(Clone, Copy, Debug, PartialEq, Eq)]
 pub struct Played {
     pub answer: Result<Answer, BenchFault>,
     pub counts: Counts,

@@ -22,7 +22,7 @@ pub fn replay<'t, C: Cache + Drop>(
     cache: C,
     calls: &[Call],
 ) -> Result<PlayedRun<'t, C>, AllocError>
-    ensures replayed { IfOk result (λ x. Replayed C.sets C.life C.holds C.vouches (setting_with (contents task.now) (shortest (rows_of tables.old)) (C.sets cache) (C.life cache)) calls.now cache x.played.items x.bench.cache (ledger_in x.bench)) }
+    ensures replayed { IfOk result (λ x. Replayed C.Cache (setting_with (contents task.now) (shortest (rows_of tables.old)) (C.sets cache) (C.life cache)) calls.now cache x.played.items x.bench.cache (ledger_in x.bench)) }
     ensures tables { Built (setting_with (contents task.now) (shortest (rows_of tables.old)) (C.sets cache) (C.life cache)) (rows_of tables.old) (rows_of tables.new) }
     ensures lent { SameMemory tables.old tables.new }
 {

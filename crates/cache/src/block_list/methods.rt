@@ -1,7 +1,7 @@
-ghost use Rattle.std.specs.Prelude.{◌≡◌, ◌≤◌, [], length, ◌==◌, position};
+ghost use Rattle.std.specs.Prelude.{◌≡◌, [], ◌==◌, position};
 ghost use Rattle.recency.specs.Blocks.{has};
 ghost use Rattle.recency.specs.Recency.{lru_step};
-ghost use Rattle.cache.specs.BlockLists.{blocks_of};
+ghost use Rattle.cache.specs.BlockLists.{FitsWays, blocks_of};
 ghost use Rattle.cache.specs.FifoSteps.{fifo_step};
 ghost use Rattle.cache.specs.Outcomes.{outcome_of};
 
@@ -32,9 +32,7 @@ impl BlockList {
 
     // An access under LRU: the block moves to the front, or comes in there.
     pub(crate) fn touch(&mut self, ways: u8, block: u32) -> Outcome
-        requires some { 1 ≤ ways }
-        requires few { ways ≤ 8 }
-        requires fits { length (blocks_of self.old) ≤ ways }
+        requires { FitsWays self.old ways }
         ensures hit { result ≡ outcome_of (has block (blocks_of self.old)) }
         ensures moved { blocks_of self.new ≡ lru_step ways block (blocks_of self.old) }
     {
@@ -52,9 +50,7 @@ impl BlockList {
 
     // An access under FIFO: a block that is not there comes in at the front.
     pub(crate) fn admit(&mut self, ways: u8, block: u32) -> Outcome
-        requires some { 1 ≤ ways }
-        requires few { ways ≤ 8 }
-        requires fits { length (blocks_of self.old) ≤ ways }
+        requires { FitsWays self.old ways }
         ensures hit { result ≡ outcome_of (has block (blocks_of self.old)) }
         ensures moved { blocks_of self.new ≡ fifo_step ways block (blocks_of self.old) }
     {

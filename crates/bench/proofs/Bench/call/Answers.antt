@@ -15,7 +15,7 @@ returns g c =
       setting = e.setting;
       refused = e.refused;
       explained = λ x.
-          subst (λ S. Explained m.sets m.life m.holds m.vouches S t.cache (ledger_in t)) (sym e.setting)
-          (still_explained m.sets m.life m.holds m.vouches g.met.C.Cache.holds_what_it_vouches_for (setting_of s) c.args.call s.cache (ledger_in s) c.obey.result t.cache (ledger_in t) e.called x);
-      bounded = explained_bounded m.sets m.life m.holds m.vouches g.met.C.Cache.holds_what_it_vouches_for (setting_of t) t.cache (ledger_in t) (and_from _ _ t.task.now.draft.legal t.task.now.complete);
+          subst (λ S. Explained m S t.cache (ledger_in t)) (sym e.setting)
+          (still_explained m g.met.C.Cache.holds_what_it_vouches_for (setting_of s) c.args.call s.cache (ledger_in s) c.obey.result t.cache (ledger_in t) e.called x);
+      bounded = explained_bounded m g.met.C.Cache.holds_what_it_vouches_for (setting_of t) t.cache (ledger_in t) (and_from _ _ t.setup.task.now.draft.legal t.setup.task.now.complete);
     }

@@ -18,7 +18,7 @@ returns-in_default g c =
     let has_not : has b (setting_of s).task.evicting ≡ false = not_found b 0 (setting_of s).task.evicting (sym c.evicting_index.ensures ∙ c.in_default.is) in
     record {
       called =
-          called_from m.sets m.life m.holds m.vouches (setting_of s) (Touch b) s.cache (ledger_in s) (Err NotEvicting) s.cache (ledger_in s) (Some 20)
+          called_from m (setting_of s) (Touch b) s.cache (ledger_in s) (Err NotEvicting) s.cache (ledger_in s) (Some 20)
           (cause_open (setting_of s) (ledger_in s) (Touch b) Interrupted c.requires.unbarred c.requires.state ∙ ap (λ t. unless t 20) has_not) refl refl refl;
       setting = refl;
       refused = refl;
@@ -33,7 +33,7 @@ returns g c =
     let has_it : has b (setting_of s).task.evicting ≡ true = found b 0 (setting_of s).task.evicting c.in-Some.field-0 (sym c.evicting_index.ensures ∙ c.in-Some.is) in
     record {
       called =
-          called_from m.sets m.life m.holds m.vouches (setting_of s) (Touch b) s.cache (ledger_in s) (Ok (Access c.access.result)) c.access.new.self (ledger_in s) None
+          called_from m (setting_of s) (Touch b) s.cache (ledger_in s) (Ok (Access c.access.result)) c.access.new.self (ledger_in s) None
           (cause_open (setting_of s) (ledger_in s) (Touch b) Interrupted c.requires.unbarred c.requires.state ∙ ap (λ t. unless t 20) has_it) (ap Access a.hit) refl (a.sets, a.life, a.held, a.moves);
       setting = refl;
       refused = tt;

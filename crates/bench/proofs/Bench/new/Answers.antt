@@ -1,7 +1,8 @@
-use Rattle.std.proofs.Common.{◌≡◌, ◌≤◌, [], length, sym, refl, ap, subst, arith}
+use Rattle.std.proofs.Common.{◌≡◌, ◌≤◌, [], length, sym, refl, ap, ◌∙◌, subst, arith}
 use Rattle.std.proofs.lemmas.Bool.{and_parts, leb-true}
 use Rattle.recency.specs.Rows.{empty_row}
 use Rattle.task.specs.Tasks.{contents}
+use Rattle.cache.specs.LruState.{lru_row}
 use Rattle.tables.specs.Rows.{rows_of, shortest}
 use Rattle.ledger.specs.Ledger.{counts_of, ledger_with}
 use Rattle.ledger.specs.declared.State.TheVariants.{Walking}
@@ -32,11 +33,11 @@ returns g c =
     let m = g.C.Cache in
     let t = contents c.args.task.now in
     let x = c.args.cache in
-    let room : c.len-room.result ≡ shortest (rows_of c.args.tables.now) = c.len-room.ensures in
-    let sets : c.sets-sets.result ≡ m.sets x = c.sets-sets.ensures in
-    let life : c.life-life.result ≡ m.life x = c.life-life.ensures in
+    let room : c.len.result ≡ shortest (rows_of c.args.tables.now) = c.len.ensures in
+    let sets : c.sets.result ≡ m.sets x = c.sets.ensures in
+    let life : c.life.result ≡ m.life x = c.life.ensures in
     let k = c.kept_numbers-resilient.ensures in
-    let ledger = ap (ledger_with Walking 0 (counts_of 0 0 0 0 0)) c.empty_lists.ensures.empty in
+    let ledger = (let d = c.default.ensures in λ i. ledger_with Walking 0 (counts_of (d.0 i) (d.1.0 i) (d.1.1.0 i) (d.1.1.1.0 i) (d.1.1.1.1 i)) (lru_row c.empty_lists.result)) ∙ ap (ledger_with Walking 0 (counts_of 0 0 0 0 0)) c.empty_lists.ensures.empty in
     record {
       setting = λ i. setting_with t (room i) (sets i) (life i);
       ledger = ledger;

@@ -14,11 +14,11 @@ returns-in_default g c =
     let m = g.C.Cache in
     let s = c.args.self.now in
     let ps = (setting_of s).task.points in
-    let e : access_at ps s.point ≡ None = sym (access_of_point ps s.point) ∙ ap (λ p. p.access) (sym c.point_at.ensures) ∙ sym c.access.ensures ∙ c.in_default.is in
+    let e : access_at ps s.point ≡ None = sym (access_of_point ps s.point) ∙ ap (λ p. p.access) (sym c.here.ensures) ∙ sym c.access.ensures ∙ c.in_default.is in
     record {
       says = ap (answer_of (m.holds s.cache) NoAccess) (sym e);
       counts = stepped_quietly (setting_of s) (ledger_in s) e false s.state s.point;
-      accesses = subst (λ b. Accesses m.sets m.life m.holds m.vouches b s.cache s.cache) (sym e) refl;
+      accesses = subst (λ b. Accesses m b s.cache s.cache) (sym e) refl;
       setting = refl;
     }
 
@@ -28,7 +28,7 @@ returns g c =
     let s = c.args.self.now in
     let ps = (setting_of s).task.points in
     let b = c.in-Some.block in
-    let e : access_at ps s.point ≡ Some b = sym (access_of_point ps s.point) ∙ ap (λ p. p.access) (sym c.point_at.ensures) ∙ sym c.access.ensures ∙ c.in-Some.is in
+    let e : access_at ps s.point ≡ Some b = sym (access_of_point ps s.point) ∙ ap (λ p. p.access) (sym c.here.ensures) ∙ sym c.access.ensures ∙ c.in-Some.is in
     let a = c.access-outcome.ensures in
     let p = c.load.ensures in
     let d = c.access-outcome.new.self in
@@ -41,6 +41,6 @@ returns g c =
           (plain_loaded ∙ ap loads_of p.hit ∙ loads_met _ ∙ ap (λ n. cond (has b (list_of n b (lru_row s.plain))) 0 1) s.plain_sets)
           (p.moved ∙ ap (λ n. row_step n s.plain.ways b (lru_row s.plain)) s.plain_sets ∙ ap (λ n. row_step (setting_of s).task.sets n b (lru_row s.plain)) s.plain_ways)
           s.state s.point;
-      accesses = subst (λ b. Accesses m.sets m.life m.holds m.vouches b s.cache d) (sym e) (a.sets, a.life, a.held, a.moves);
+      accesses = subst (λ b. Accesses m b s.cache d) (sym e) (a.sets, a.life, a.held, a.moves);
       setting = refl;
     }

@@ -11,8 +11,8 @@ invariant_of-self g c =
     let t = c.perform-answer.new.self in
     let q = c.args.to in
     let ps = (setting_of s).task.points in
-    let follows : has q (successors_at ps s.point) ≡ true = ap (λ p. has q p.successors) (sym c.point_at.ensures) ∙ sym c.is_successor.ensures ∙ c.if-not-is_successor.false in
-    let inside = subst (λ S. q < length S.task.points) (sym c.perform-answer.ensures.setting) (successor_inside ps s.point q s.task.now.complete follows) in
+    let follows : has q (successors_at ps s.point) ≡ true = ap (λ p. has q p.successors) (sym c.here.ensures) ∙ sym c.leads_to.ensures ∙ c.if-not-leads_to.false in
+    let inside = subst (λ S. q < length S.task.points) (sym c.perform-answer.ensures.setting) (successor_inside ps s.point q s.setup.task.now.complete follows) in
     record {
       inside = inside;
       numbers = t.numbers;

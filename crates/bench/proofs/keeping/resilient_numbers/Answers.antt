@@ -1,35 +1,15 @@
-use Rattle.std.proofs.Common.{◌<◌, ◌≢◌, length, sym, ap, ◌∙◌, arith, length-set, get_or-set_other, get_or-set_same, below_more}
-use lib.ListN.{length-map}
-use Rattle.task.specs.Meaning.{point_contents}
+use Rattle.std.proofs.Common.{◌∙◌, cond, nat_lt, arith, rules}
+use Rattle.std.proofs.lemmas.Bool.{cond-true, lt-ltb}
 use Rattle.task.specs.Tasks.{contents}
 use Rattle.task.proofs.Drafting.{kept}
+use Rattle.tables.specs.Rows.{numbers_at, rows_of, shortest}
+use Rattle.bench.proofs.Made.{made_at}
 use Rattle.bench.proofs.keeping.resilient_numbers.Goals as goal
 
-pub unreachable-requires : goal.unreachable-requires
-unreachable-requires c =
-    let n = sym (length-map c.points-p-end.result.now point_contents) ∙ ap length c.points-p-end.ensures in
-    omega (arith, n, c.requires, c.in_default.ensures, c.loop-p-test.true)
-
-pub bounds-resilient-p : goal.bounds-resilient-p
-bounds-resilient-p c =
-    let n = sym (length-map c.points-p-end.result.now point_contents) ∙ ap length c.points-p-end.ensures in
-    let few = (kept (contents c.args.task.now) c.args.task.now.draft.legal).points_few in
-    omega (arith, n, few, c.loop-p.invariant.0, c.loop-p-test.true)
-
-pub loop-p-preserved : goal.loop-p-preserved
-loop-p-preserved c =
-    let xs = c.loop-p.resilient in
-    let p = c.loop-p.p in
-    let v = c.in-Some.numbers.resilient in
-    let n = sym (length-map c.points-p-end.result.now point_contents) ∙ ap length c.points-p-end.ensures in
-    let few = (kept (contents c.args.task.now) c.args.task.now.draft.legal).points_few in
-    let lt : p < length xs = omega (arith, n, few, c.loop-p.invariant.0, c.loop-p-test.true) in (
-      length-set xs p v ∙ c.loop-p.invariant.0,
-      below_more _ _ (λ k h. let ne : k ≢ p = omega arith in get_or-set_other xs p k v 0 ne ∙ c.loop-p.invariant.1 k h)
-          (get_or-set_same xs p v 0 lt ∙ ap (λ x. x.resilient) c.in-Some.ensures.1),
-    )
-
-pub returns : goal.returns
-returns c =
-    let n = sym (length-map c.points-p-end.result.now point_contents) ∙ ap length c.points-p-end.ensures in
-    record { room = c.loop-p.invariant.0; numbers = λ p h. c.loop-p.invariant.1 p (omega (arith, n, h, c.loop-p-test.false)) }
+pub returns-clause-numbers : goal.returns-clause-numbers
+returns-clause-numbers c = λ p h.
+    let t = contents c.args.task.now in
+    let rows = rows_of c.args.tables.now in
+    let few = (kept t c.args.task.now.draft.legal).points_few in
+    made_at _ _ (λ k. cond (nat_lt k (shortest rows)) (numbers_at t rows k).resilient 0) (λ i y q called. search rules) c.from_fn.result 128 0 c.from_fn.ensures.items.each p 0 (omega arith) (omega (arith, h, few))
+    ∙ cond-true _ _ _ (lt-ltb p (shortest rows) (omega (arith, h, c.requires)))

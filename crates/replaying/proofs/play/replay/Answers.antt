@@ -23,9 +23,9 @@ loop-call-preserved g c =
     let d = c.call-answer.new.self in
     let x : Played = record { answer = c.call-answer.result; counts = c.read-counts.result } in
     let said = c.call-answer.ensures in
-    let one = along_more m.sets m.life m.holds m.vouches (setting_of first) first.cache (take i calls) (vec_items c.loop-call.played) b.cache (ledger_in b) (setting_of b) call x d.cache (ledger_in d) (setting_of d) c.loop-call.invariant said.called c.read-counts.ensures said.setting said.explained said.bounded in
-    subst (λ (ks : List Call). Along m.sets m.life m.holds m.vouches (setting_of first) first.cache ks (vec_items c.push.new.self) d.cache (ledger_in d) (setting_of d)) (sym (take_more calls i (Step 0) c.loop-call-test.true))
-    (subst (λ (xs : List Played). Along m.sets m.life m.holds m.vouches (setting_of first) first.cache (take i calls ++ (call ∷ [])) xs d.cache (ledger_in d) (setting_of d)) (sym c.in_ok-push.ensures.items) one)
+    let one = along_more m (setting_of first) first.cache (take i calls) (vec_items c.loop-call.played) b.cache (ledger_in b) (setting_of b) call x d.cache (ledger_in d) (setting_of d) c.loop-call.invariant said.called c.read-counts.ensures said.setting said.explained said.bounded in
+    subst (λ (ks : List Call). Along m (setting_of first) first.cache ks (vec_items c.push.new.self) d.cache (ledger_in d) (setting_of d)) (sym (take_more calls i (Step 0) c.loop-call-test.true))
+    (subst (λ (xs : List Played). Along m (setting_of first) first.cache (take i calls ++ (call ∷ [])) xs d.cache (ledger_in d) (setting_of d)) (sym c.in_ok-push.ensures.items) one)
 
 pub returns : goal.returns
 returns g c =
@@ -35,12 +35,12 @@ returns g c =
     let b = c.loop-call.bench in
     let made = c.new-bench.ensures in
     let S : Setting = setting_with (contents c.args.task.now) (shortest (rows_of c.args.tables.now)) (m.sets c.args.cache) (m.life c.args.cache) in
-    let whole = along_all m.sets m.life m.holds m.vouches (setting_of first) first.cache (take c.loop-call.call-index calls) (vec_items c.loop-call.played) b.cache (ledger_in b) (setting_of b) c.loop-call.invariant in
+    let whole = along_all m (setting_of first) first.cache (take c.loop-call.call-index calls) (vec_items c.loop-call.played) b.cache (ledger_in b) (setting_of b) c.loop-call.invariant in
     let all : take c.loop-call.call-index calls ≡ calls = take_all c.loop-call.call-index calls c.loop-call-test.false in
     record {
-      replayed = subst (λ (T : Setting). Replayed m.sets m.life m.holds m.vouches T calls c.args.cache (vec_items c.loop-call.played) b.cache (ledger_in b)) made.setting
-          (subst (λ (x : g.row.C.Denot). Replayed m.sets m.life m.holds m.vouches (setting_of first) calls x (vec_items c.loop-call.played) b.cache (ledger_in b)) made.cache
-          (subst (λ (ks : List Call). Replayed m.sets m.life m.holds m.vouches (setting_of first) ks first.cache (vec_items c.loop-call.played) b.cache (ledger_in b)) all whole));
+      replayed = subst (λ (T : Setting). Replayed m T calls c.args.cache (vec_items c.loop-call.played) b.cache (ledger_in b)) made.setting
+          (subst (λ (x : g.row.C.Denot). Replayed m (setting_of first) calls x (vec_items c.loop-call.played) b.cache (ledger_in b)) made.cache
+          (subst (λ (ks : List Call). Replayed m (setting_of first) ks first.cache (vec_items c.loop-call.played) b.cache (ledger_in b)) all whole));
       tables = subst (λ (T : Setting). Built T (rows_of c.args.tables.now) (rows_of c.new-bench.new.tables)) made.setting made.tables;
       lent = made.lent;
     }

@@ -5,11 +5,11 @@ use Rattle.cache.specs.Policies.{step_keeps_row}
 use Rattle.cache.proofs.Tables.{list_fits, row_set}
 use Rattle.cache.proofs.list_cache.ListCache.load.Goals as goal
 
-pub access-requires-clause-fits : goal.access-requires-clause-fits
-access-requires-clause-fits g c =
+pub access-requires : goal.access-requires
+access-requires g c =
     let s = c.args.self.now in
     let room : s.sets ≤ length s.lists = omega arith in
-    list_fits s.sets s.ways c.args.block s.lists _ s.some_sets room s.row
+    record { some = s.some_ways; few = s.few_ways; fits = list_fits s.sets s.ways c.args.block s.lists _ s.some_sets room s.row }
 
 pub invariant_of-self : goal.invariant_of-self
 invariant_of-self g c =
