@@ -4,4 +4,3 @@ mod Steps
 mod Turns
 mod Explaining
 mod Finding
-mod Made

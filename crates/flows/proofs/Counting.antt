@@ -13,7 +13,8 @@ use Rattle.conflicts.specs.Laws.{conflicts_laws}
 use Rattle.widest.specs.Laws.{next_uses_laws}
 use Rattle.widest.specs.NextUses.{count_list}
 use Rattle.numbers.specs.Counts.{count_below, sum_below}
-use Rattle.numbers.specs.Numbers.{below, evicting_in, if_evicting, is_reached_in, reached, reached_in}
+use Rattle.numbers.specs.Numbers.{evicting_in, if_evicting, is_reached_in, reached_in}
+use Rattle.numbers.specs.Tests.{below, reached}
 use Rattle.rowkinds.specs.BlockSets.{block_sets, filled_up}
 use Rattle.tables.specs.Rows.{settled_rows, view_at}
 use Rattle.tables.proofs.OwnNotes.{own_index}
