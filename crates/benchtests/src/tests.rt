@@ -19,7 +19,7 @@ use rowkinds::ages::AgeKind;
 use std::alloc::Global;
 use std::process::Abort;
 use std::test::Fail;
-use tables::Tables;
+use tables::{TableMemory, Tables};
 use task::draft::TaskDraft;
 use task::parameters::CacheParameters;
 use task::point::Point;
@@ -307,11 +307,8 @@ fn causes(rt: HostRuntime) -> Result<(), Fail> {
 #[test]
 fn limits(rt: HostRuntime) -> Result<(), Fail> {
     let task = loop_of_four(rt.alloc())?;
-    let mut ages = [AgeKind::of(&task).start(); 5];
-    let mut reuses = ages;
-    let mut conflicts = [ConflictKind::of(&task).start(); 5];
-    let mut widest = [NextUseKind::of(&task).start(); 5];
-    let mut tables = Tables::over(&mut ages, &mut reuses, &mut conflicts, &mut widest);
+    let mut memory = TableMemory::<5>::of(&task);
+    let mut tables = memory.lend();
     let mut bench = Bench::new(&task, &mut tables, Lru::new(1, 4)?);
     for i in 0..60_000 {
         if i < 999 {

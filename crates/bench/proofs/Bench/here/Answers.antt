@@ -1,5 +1,4 @@
 use Rattle.std.proofs.Common.{◌<◌, [], length, get_or, None, sym, ap, ◌∙◌, arith}
-use lib.ListN.{length-map}
 use Rattle.std.proofs.lemmas.List.{get_or-map}
 use Rattle.task.specs.Contents.{point_with}
 use Rattle.task.specs.Meaning.{point_contents}

@@ -1,6 +1,4 @@
-use Rattle.std.proofs.Common.{length, sym, ap, ◌∙◌, arith}
-use lib.ListN.{length-map}
-use Rattle.task.specs.Meaning.{point_contents}
+use Rattle.std.proofs.Common.{sym, ◌∙◌, arith}
 use Rattle.bench.specs.Keeping.{setting_in}
 use Rattle.bench.proofs.Barring.{short_table, other_sets, other_life, not_barred}
 use Rattle.bench.proofs.setup.Setup.bar.Goals as goal
