@@ -3,6 +3,7 @@ ghost use Rattle.std.proofs.Common.{rules};
 
 use crate::RowKind;
 use crate::direction::Direction;
+use crate::fault::ShortTable;
 use crate::table::Table;
 use std::alloc::Global;
 use std::test::Fail;
@@ -33,7 +34,7 @@ impl RowKind for Counter {
     }
 
     fn merge(&self, a: &u8, b: &u8) -> u8 {
-        if *a < *b { *b } else { *a }
+        *a.max(b)
     }
 
     fn advance(&self, row: &u8, note: &u8) -> u8 {
@@ -47,28 +48,17 @@ impl RowKind for Counter {
 
 // Point 0 leads to point 1, and back.
 fn two_points(heap: Global) -> Result<Task, Fail> {
-    let Ok(mut draft) = TaskDraft::new(
-        heap,
-        CacheParameters {
-            sets: 1,
-            ways: 1,
-            reload: 0,
-        },
-    ) else {
-        return Err(Fail::new("no draft"));
+    let cache = CacheParameters {
+        sets: 1,
+        ways: 1,
+        reload: 0,
     };
+    let mut draft = TaskDraft::new(heap, cache)?;
     for next in [1, 0] {
-        let Some(point) = Point::new(None, &[next]) else {
-            return Err(Fail::new("no point"));
-        };
-        let Ok(()) = draft.add_point(point) else {
-            return Err(Fail::new("no room"));
-        };
+        let point = Point::new(None, &[next]).ok_or_else(|| Fail::new("no point"))?;
+        draft.add_point(point)?;
     }
-    match draft.finish() {
-        Ok(task) => Ok(task),
-        Err(_) => Err(Fail::new("no task")),
-    }
+    draft.finish().map_err(|_| Fail::new("no task"))
 }
 
 // The table held other rows before; that past the last point stays.
@@ -83,10 +73,8 @@ fn rounds_and_rows(rt: HostRuntime) -> Result<(), Fail> {
     for (direction, notes, rounds, settled) in cases {
         let mut rows = [7, 8, 9];
         let mut table = Table::over(&mut rows);
-        match table.settle(&Counter { cap: 5 }, &task, direction, &notes) {
-            Ok(n) => assert_eq!(rt; n, rounds),
-            Err(_) => return Err(Fail::new("refused")),
-        }
+        let settled_in = table.settle(&Counter { cap: 5 }, &task, direction, &notes);
+        assert_eq!(rt; settled_in, Ok(rounds));
         assert_eq!(rt; table.len(), 3);
         assert_eq!(rt; table.row(2), Some(9));
         assert_eq!(rt; table.row(3), None);
@@ -102,15 +90,9 @@ fn refusals(rt: HostRuntime) -> Result<(), Fail> {
     for (n, notes) in [(1, 2), (2, 1), (0, 0)] {
         let mut rows = [7, 8];
         let mut table = Table::over(&mut rows[0..n]);
-        match table.settle(
-            &Counter { cap: 5 },
-            &task,
-            Direction::Forward,
-            &[2, 0][0..notes],
-        ) {
-            Ok(_) => return Err(Fail::new("settled")),
-            Err(fault) => assert_eq!(rt; fault.number(), 10),
-        }
+        let notes = &[2, 0][0..notes];
+        let settled_in = table.settle(&Counter { cap: 5 }, &task, Direction::Forward, notes);
+        assert_eq!(rt; settled_in.map_err(ShortTable::number), Err(10));
         assert_eq!(rt; rows, [7, 8]);
     }
     Ok(())
