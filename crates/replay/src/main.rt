@@ -168,7 +168,8 @@ fn task_from(heap: Global, line: &str) -> Result<Task, Stop> {
 }
 
 // Reads the run up to its end, or to the line that ends it.
-fn read_script(rt: &HostRuntime, heap: Global, script: &mut Script) -> Result<(), Stop> {
+fn read_script(rt: &HostRuntime, script: &mut Script) -> Result<(), Stop> {
+    let heap = rt.alloc();
     // the lines are counted by the script, since the number past the last one is told too
     for line in BufReader::new(heap, rt.stdin())?.lines(heap) {
         script.take(heap, line?.as_str())?;
@@ -178,12 +179,8 @@ fn read_script(rt: &HostRuntime, heap: Global, script: &mut Script) -> Result<()
 }
 
 // Prints what the calls said, and the counts where they are wanted, in one piece; the counts at the end are given back.
-fn print_asked(
-    rt: &HostRuntime,
-    heap: Global,
-    asked: &[RunLine],
-    played: &[Played],
-) -> anyhow::Result<Counts> {
+fn print_asked(rt: &HostRuntime, asked: &[RunLine], played: &[Played]) -> anyhow::Result<Counts> {
+    let heap = rt.alloc();
     let mut counts = Counts {
         steps: 0,
         interruptions: 0,
@@ -218,7 +215,6 @@ fn call_in(line: &RunLine) -> Option<Call> {
 // Replays the calls on a bench over a cache, or says why there is no such cache.
 fn play<C: Cache + Drop>(
     rt: &HostRuntime,
-    heap: Global,
     task: &Task,
     cache: Result<C, CacheFault>,
     asked: &[RunLine],
@@ -236,24 +232,24 @@ fn play<C: Cache + Drop>(
     let mut conflicts = [ConflictKind::of(task).start(); 128];
     let mut widest = [NextUseKind::of(task).start(); 128];
     let mut tables = Tables::over(&mut ages, &mut reuses, &mut conflicts, &mut widest);
+    let heap = rt.alloc();
     let calls: Vec<Call> = asked.iter().filter_map(call_in).collect(heap)?;
     let run = replay(heap, task, &mut tables, cache, &calls)?;
-    print_asked(rt, heap, asked, &run.played)
+    print_asked(rt, asked, &run.played)
 }
 
 // Replays the calls on the cache of a line.
 fn play_on(
     rt: &HostRuntime,
-    heap: Global,
     task: &Task,
     line: CacheLine,
     asked: &[RunLine],
 ) -> anyhow::Result<Counts> {
     let CacheLine { policy, sets, ways } = line;
     match policy {
-        Policy::Lru => play(rt, heap, task, Lru::new(sets, ways), asked),
-        Policy::Fifo => play(rt, heap, task, Fifo::new(sets, ways), asked),
-        Policy::Tree => play(rt, heap, task, Plru::new(sets, ways), asked),
+        Policy::Lru => play(rt, task, Lru::new(sets, ways), asked),
+        Policy::Fifo => play(rt, task, Fifo::new(sets, ways), asked),
+        Policy::Tree => play(rt, task, Plru::new(sets, ways), asked),
     }
 }
 
@@ -273,9 +269,9 @@ fn main(rt: HostRuntime) -> anyhow::Result<()> {
         asked: Vec::new(heap),
         number: 1,
     };
-    match read_script(&rt, heap, &mut script) {
-        Ok(()) => run(&rt, heap, &script, true),
-        Err(Stop::NotUnderstood) => run(&rt, heap, &script, false),
+    match read_script(&rt, &mut script) {
+        Ok(()) => run(&rt, &script, true),
+        Err(Stop::NotUnderstood) => run(&rt, &script, false),
         Err(Stop::Refused(fault)) => {
             rt.print(refusal_line(heap, fault)?)?;
             Err(anyhow!("refused"))
@@ -285,11 +281,11 @@ fn main(rt: HostRuntime) -> anyhow::Result<()> {
 }
 
 // Replays what was read, and says what ends it.
-fn run(rt: &HostRuntime, heap: Global, script: &Script, whole: bool) -> anyhow::Result<()> {
+fn run(rt: &HostRuntime, script: &Script, whole: bool) -> anyhow::Result<()> {
     if let (Some(task), Some(line)) = (&script.task, script.cache) {
-        let counts = play_on(rt, heap, task, line, &script.asked)?;
+        let counts = play_on(rt, task, line, &script.asked)?;
         if whole {
-            rt.print(counts_line(heap, counts)?)?;
+            rt.print(counts_line(rt.alloc(), counts)?)?;
             return Ok(());
         }
     }
