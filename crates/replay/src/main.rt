@@ -1,7 +1,7 @@
 // Reads a run from standard input, a task, a cache and calls, and prints what each call said.
 #![tactic(auto)]
 
-use anyhow::anyhow;
+use anyhow::{Context, anyhow};
 use cache::Cache;
 use cache::fault::CacheFault;
 use cache::fifo::Fifo;
@@ -14,10 +14,11 @@ use replaying::{Played, replay};
 use report::refusal_line;
 use rowkinds::ages::AgeKind;
 use runtext::answers::{answer_line, counts_line};
-use runtext::calls::{RunLine, parse_call};
+use runtext::calls::{NotUnderstood, RunLine, number_from};
 use runtext::hex::bytes_from_hex;
-use std::alloc::Global;
+use std::alloc::{AllocError, AllocFailed, Global};
 use std::io::{BufRead, BufReader};
+use std::str::FromStr;
 use std::{env, io};
 use tables::Tables;
 use task::task::Task;
@@ -39,13 +40,6 @@ Prints a line a call, as 'step 1: miss' or 'step 4: refused 18'; for read, and a
 A refused task or cache, or a line that is not understood, ends the run with status 1.
 ";
 
-// What is asked for after the cache line.
-#[derive(Clone, Copy)]
-enum Item {
-    Read,
-    Call(Call),
-}
-
 #[derive(Clone, Copy)]
 enum Policy {
     Lru,
@@ -53,6 +47,20 @@ enum Policy {
     Tree,
 }
 
+impl FromStr for Policy {
+    type Err = NotUnderstood;
+
+    fn from_str(word: &str) -> Result<Policy, NotUnderstood> {
+        match word {
+            "lru" => Ok(Policy::Lru),
+            "fifo" => Ok(Policy::Fifo),
+            "tree" => Ok(Policy::Tree),
+            _ => Err(NotUnderstood),
+        }
+    }
+}
+
+// The line `cache POLICY SETS WAYS`.
 #[derive(Clone, Copy)]
 struct CacheLine {
     policy: Policy,
@@ -60,12 +68,67 @@ struct CacheLine {
     ways: u8,
 }
 
-// What a line does to the run.
-#[derive(Clone, Copy)]
-enum Taken {
-    Taken,
+impl FromStr for CacheLine {
+    type Err = NotUnderstood;
+
+    fn from_str(line: &str) -> Result<CacheLine, NotUnderstood> {
+        let rest = line.strip_prefix("cache ").ok_or(NotUnderstood)?;
+        let (policy, size) = rest.split_once(' ').ok_or(NotUnderstood)?;
+        let (sets, ways) = size.split_once(' ').ok_or(NotUnderstood)?;
+        Ok(CacheLine {
+            policy: policy.parse()?,
+            sets: size_from(sets)?,
+            ways: size_from(ways)?,
+        })
+    }
+}
+
+// What no cache can have stands for all that is larger.
+fn size_from(digits: &str) -> Result<u8, NotUnderstood> {
+    let n: u32 = number_from(digits).ok_or(NotUnderstood)?;
+    Ok(n.min(255) as u8)
+}
+
+// Why a run is not read to its end.
+#[derive(Drop)]
+enum Stop {
     NotUnderstood,
     Refused(TaskFault),
+    Failed(anyhow::Error),
+}
+
+impl From<NotUnderstood> for Stop {
+    fn from(_line: NotUnderstood) -> Stop {
+        Stop::NotUnderstood
+    }
+}
+
+impl From<TaskFault> for Stop {
+    fn from(fault: TaskFault) -> Stop {
+        Stop::Refused(fault)
+    }
+}
+
+impl From<AllocError> for Stop {
+    fn from(error: AllocError) -> Stop {
+        Stop::Failed(error.into())
+    }
+}
+
+impl<T: Drop> From<AllocFailed<T>> for Stop {
+    fn from(failed: AllocFailed<T>) -> Stop {
+        Stop::from(AllocError::from(failed))
+    }
+}
+
+impl From<io::Error> for Stop {
+    // What is not text is not understood.
+    fn from(error: io::Error) -> Stop {
+        if matches!(error.kind(), io::ErrorKind::InvalidData) {
+            return Stop::NotUnderstood;
+        }
+        Stop::Failed(error.into())
+    }
 }
 
 // A run as far as it was read.
@@ -73,89 +136,51 @@ enum Taken {
 struct Script {
     task: Option<Task>,
     cache: Option<CacheLine>,
-    items: Vec<Item>,
-    calls: Vec<Call>,
+    // the calls, and where the counts are wanted
+    asked: Vec<RunLine>,
+    // of the line that comes next
+    number: usize,
 }
 
 impl Script {
     // Takes one more line.
-    fn take(&mut self, heap: Global, line: &str) -> anyhow::Result<Taken> {
-        let parsed = parse_call(line);
-        if let Some(RunLine::Nothing) = parsed {
-            return Ok(Taken::Taken);
+    fn take(&mut self, heap: Global, line: &str) -> Result<(), Stop> {
+        let parsed = line.parse();
+        if let Ok(RunLine::Nothing) = parsed {
+            return Ok(());
         }
         if self.task.is_none() {
-            return self.take_task(heap, line);
+            self.task = Some(task_from(heap, line)?);
+        } else if self.cache.is_none() {
+            self.cache = Some(line.parse()?);
+        } else {
+            self.asked.push(parsed?)?;
         }
-        if self.cache.is_none() {
-            self.cache = cache_from(line);
-            return if self.cache.is_none() {
-                Ok(Taken::NotUnderstood)
-            } else {
-                Ok(Taken::Taken)
-            };
-        }
-        match parsed {
-            Some(RunLine::Read) => self.items.push(Item::Read)?,
-            Some(RunLine::Call(call)) => {
-                self.items.push(Item::Call(call))?;
-                self.calls.push(call)?;
-            }
-            _ => return Ok(Taken::NotUnderstood),
-        }
-        Ok(Taken::Taken)
-    }
-
-    fn take_task(&mut self, heap: Global, line: &str) -> anyhow::Result<Taken> {
-        let Some(hex) = line.strip_prefix("task ") else {
-            return Ok(Taken::NotUnderstood);
-        };
-        let Some(bytes) = bytes_from_hex(heap, hex.as_bytes())? else {
-            return Ok(Taken::NotUnderstood);
-        };
-        match read_task(heap, &bytes) {
-            Ok(task) => {
-                self.task = Some(task);
-                Ok(Taken::Taken)
-            }
-            Err(fault) => Ok(Taken::Refused(fault)),
-        }
+        Ok(())
     }
 }
 
-// A line `cache POLICY SETS WAYS`; none where it is not understood.
-fn cache_from(line: &str) -> Option<CacheLine> {
-    let (policy, size) = line.strip_prefix("cache ")?.split_once(' ')?;
-    let (sets, ways) = size.split_once(' ')?;
-    let policy = match policy {
-        "lru" => Policy::Lru,
-        "fifo" => Policy::Fifo,
-        "tree" => Policy::Tree,
-        _ => return None,
-    };
-    Some(CacheLine {
-        policy,
-        sets: size_from(sets)?,
-        ways: size_from(ways)?,
-    })
+// The task of a line `task HEX`.
+fn task_from(heap: Global, line: &str) -> Result<Task, Stop> {
+    let hex = line.strip_prefix("task ").ok_or(NotUnderstood)?;
+    let bytes = bytes_from_hex(heap, hex.as_bytes())?.ok_or(NotUnderstood)?;
+    Ok(read_task(heap, &bytes)?)
 }
 
-// A decimal number without sign. What no cache can have stands for all that is larger.
-fn size_from(digits: &str) -> Option<u8> {
-    if digits.starts_with('+') {
-        return None;
+// Reads the run up to its end, or to the line that ends it.
+fn read_script(rt: &HostRuntime, script: &mut Script) -> Result<(), Stop> {
+    let heap = rt.alloc();
+    // the lines are counted by the script, since the number past the last one is told too
+    for line in BufReader::new(heap, rt.stdin())?.lines(heap) {
+        script.take(heap, line?.as_str())?;
+        script.number = script.number.saturating_add(1);
     }
-    let n = digits.parse::<u32>().ok()?;
-    Some(n.min(255) as u8)
+    Ok(())
 }
 
 // Prints what the calls said, and the counts where they are wanted, in one piece; the counts at the end are given back.
-fn print_items(
-    rt: &HostRuntime,
-    heap: Global,
-    items: &[Item],
-    played: &[Played],
-) -> anyhow::Result<Counts> {
+fn print_asked(rt: &HostRuntime, asked: &[RunLine], played: &[Played]) -> anyhow::Result<Counts> {
+    let heap = rt.alloc();
     let mut counts = Counts {
         steps: 0,
         interruptions: 0,
@@ -163,18 +188,16 @@ fn print_items(
         plain: 0,
         charge: 0,
     };
-    let mut next = 0;
+    let mut answers = played.iter();
     let mut text = String::new(heap);
-    for item in items {
-        match *item {
-            Item::Read => text.push_str(counts_line(heap, counts)?.as_str())?,
-            Item::Call(call) => {
-                let Some(said) = played.get(next) else {
-                    return Err(anyhow!("a call without an answer"));
-                };
+    for line in asked {
+        match *line {
+            RunLine::Nothing => {}
+            RunLine::Read => text.push_str(counts_line(heap, counts)?.as_str())?,
+            RunLine::Call(call) => {
+                let said = answers.next().context("a call without an answer")?;
                 text.push_str(answer_line(heap, call, said.answer)?.as_str())?;
                 counts = said.counts;
-                next += 1;
             }
         }
     }
@@ -182,71 +205,52 @@ fn print_items(
     Ok(counts)
 }
 
-// Replays the calls on a bench over a cache.
+fn call_in(line: &RunLine) -> Option<Call> {
+    match *line {
+        RunLine::Call(call) => Some(call),
+        _ => None,
+    }
+}
+
+// Replays the calls on a bench over a cache, or says why there is no such cache.
 fn play<C: Cache + Drop>(
     rt: &HostRuntime,
-    heap: Global,
     task: &Task,
-    cache: C,
-    script: &Script,
+    cache: Result<C, CacheFault>,
+    asked: &[RunLine],
 ) -> anyhow::Result<Counts> {
+    let cache = match cache {
+        Ok(cache) => cache,
+        Err(fault) => {
+            let number = fault.number();
+            print!(rt; "refused {number}\n")?;
+            return Err(anyhow!("refused"));
+        }
+    };
     let mut ages = [AgeKind::of(task).start(); 128];
     let mut reuses = ages;
     let mut conflicts = [ConflictKind::of(task).start(); 128];
     let mut widest = [NextUseKind::of(task).start(); 128];
     let mut tables = Tables::over(&mut ages, &mut reuses, &mut conflicts, &mut widest);
-    let run = replay(heap, task, &mut tables, cache, &script.calls)?;
-    print_items(rt, heap, &script.items, &run.played)
+    let heap = rt.alloc();
+    let calls: Vec<Call> = asked.iter().filter_map(call_in).collect(heap)?;
+    let run = replay(heap, task, &mut tables, cache, &calls)?;
+    print_asked(rt, asked, &run.played)
 }
 
-// Makes the cache and replays the calls on it, or says why there is no such cache.
+// Replays the calls on the cache of a line.
 fn play_on(
     rt: &HostRuntime,
-    heap: Global,
     task: &Task,
     line: CacheLine,
-    script: &Script,
-) -> anyhow::Result<Result<Counts, CacheFault>> {
+    asked: &[RunLine],
+) -> anyhow::Result<Counts> {
     let CacheLine { policy, sets, ways } = line;
     match policy {
-        Policy::Lru => match Lru::new(sets, ways) {
-            Ok(cache) => Ok(Ok(play(rt, heap, task, cache, script)?)),
-            Err(fault) => Ok(Err(fault)),
-        },
-        Policy::Fifo => match Fifo::new(sets, ways) {
-            Ok(cache) => Ok(Ok(play(rt, heap, task, cache, script)?)),
-            Err(fault) => Ok(Err(fault)),
-        },
-        Policy::Tree => match Plru::new(sets, ways) {
-            Ok(cache) => Ok(Ok(play(rt, heap, task, cache, script)?)),
-            Err(fault) => Ok(Err(fault)),
-        },
+        Policy::Lru => play(rt, task, Lru::new(sets, ways), asked),
+        Policy::Fifo => play(rt, task, Fifo::new(sets, ways), asked),
+        Policy::Tree => play(rt, task, Plru::new(sets, ways), asked),
     }
-}
-
-// Reads the run up to its end, or to the line that ends it, whose number is given back.
-fn read_script(
-    rt: &HostRuntime,
-    heap: Global,
-    script: &mut Script,
-) -> anyhow::Result<(usize, Taken)> {
-    let mut number: usize = 1;
-    for line in BufReader::new(heap, rt.stdin())?.lines(heap) {
-        let line = match line {
-            Ok(line) => line,
-            // what is not text is not understood
-            Err(e) if matches!(e.kind(), io::ErrorKind::InvalidData) => {
-                return Ok((number, Taken::NotUnderstood));
-            }
-            Err(e) => return Err(e.into()),
-        };
-        match script.take(heap, line.as_str())? {
-            Taken::Taken => {}
-            end => return Ok((number, end)),
-        }
-        number = number.saturating_add(1);
-    }
-    Ok((number, Taken::Taken))
 }
 
 fn main(rt: HostRuntime) -> anyhow::Result<()> {
@@ -262,39 +266,30 @@ fn main(rt: HostRuntime) -> anyhow::Result<()> {
     let mut script = Script {
         task: None,
         cache: None,
-        items: Vec::new(heap),
-        calls: Vec::new(heap),
+        asked: Vec::new(heap),
+        number: 1,
     };
-    let (number, end) = read_script(&rt, heap, &mut script)?;
-    if let Taken::Refused(fault) = end {
-        rt.print(refusal_line(heap, fault)?)?;
-        return Err(anyhow!("refused"));
+    match read_script(&rt, &mut script) {
+        Ok(()) => run(&rt, &script, true),
+        Err(Stop::NotUnderstood) => run(&rt, &script, false),
+        Err(Stop::Refused(fault)) => {
+            rt.print(refusal_line(heap, fault)?)?;
+            Err(anyhow!("refused"))
+        }
+        Err(Stop::Failed(error)) => Err(error),
     }
-    run(&rt, heap, &script, number, end)
 }
 
 // Replays what was read, and says what ends it.
-fn run(
-    rt: &HostRuntime,
-    heap: Global,
-    script: &Script,
-    number: usize,
-    end: Taken,
-) -> anyhow::Result<()> {
+fn run(rt: &HostRuntime, script: &Script, whole: bool) -> anyhow::Result<()> {
     if let (Some(task), Some(line)) = (&script.task, script.cache) {
-        let counts = match play_on(rt, heap, task, line, script)? {
-            Ok(counts) => counts,
-            Err(fault) => {
-                let number = fault.number();
-                print!(rt; "refused {number}\n")?;
-                return Err(anyhow!("refused"));
-            }
-        };
-        if let Taken::Taken = end {
-            rt.print(counts_line(heap, counts)?)?;
+        let counts = play_on(rt, task, line, &script.asked)?;
+        if whole {
+            rt.print(counts_line(rt.alloc(), counts)?)?;
             return Ok(());
         }
     }
+    let number = script.number;
     print!(rt; "line {number} not understood\n")?;
     Err(anyhow!("not understood"))
 }

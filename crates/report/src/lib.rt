@@ -3,7 +3,7 @@
 
 ghost use Rattle.std.specs.Prelude.{◌≡◌, IfOk, string_bytes};
 ghost use Rattle.task.specs.Tasks.{contents};
-ghost use Rattle.report.specs.Texts.{placed_text, refusal_text, summary_text};
+ghost use Rattle.report.specs.Texts.{refusal_text, summary_text};
 
 use std::alloc::{AllocError, Global};
 use task::parameters::CacheParameters;
@@ -11,14 +11,11 @@ use task::task::Task;
 use taskfile::fault::TaskFault;
 
 // The line for a file that is refused.
+#[tactic(auto, using(crate::proofs::Lines::lined))]
 pub fn refusal_line(heap: Global, fault: TaskFault) -> Result<String, AllocError>
     ensures { IfOk result (λ s. string_bytes s ≡ refusal_text fault) }
 {
-    match fault {
-        TaskFault::Fields(fault) => placed_line(heap, "fields", fault.cause.number(), fault.place),
-        TaskFault::Task(cause, place) => placed_line(heap, "task", cause.number(), place),
-        TaskFault::Memory => String::from_str(heap, "out of memory\n"),
-    }
+    format!(in heap; "{fault}\n")
 }
 
 // The line for a task: its cache, and how many points and blocks it has.
@@ -32,11 +29,4 @@ pub fn summary_line(heap: Global, task: &Task) -> Result<String, AllocError>
     format!(in heap;
         "sets {sets} ways {ways} reload {reload} points {points} blocks {blocks} evicting {evicting}\n"
     )
-}
-
-// The line for a refusal by a layer, with the number of its cause and the place in the file.
-fn placed_line(heap: Global, layer: &str, number: u8, place: usize) -> Result<String, AllocError>
-    ensures { IfOk result (λ s. string_bytes s ≡ placed_text layer.now number place) }
-{
-    format!(in heap; "refused {layer} {number} at {place}\n")
 }

@@ -37,7 +37,7 @@ pub fn counts_line(heap: Global, counts: Counts) -> Result<String, AllocError>
     )
 }
 
-// A call as the input has it.
+// A call as the input has it. Calls, answers and counts are types of other crates, where alone they could be `Display`.
 fn call_words(heap: Global, call: Call) -> Result<String, AllocError>
     ensures { IfOk result (λ s. string_bytes s ≡ call_words call) }
 {

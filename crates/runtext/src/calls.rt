@@ -1,8 +1,10 @@
 // The lines that a replay reads its calls from.
-ghost use Rattle.std.specs.Prelude.{◌≡◌};
-ghost use Rattle.runtext.specs.Calls.{all_blank, call_of, line_of, number_of};
+ghost use Rattle.std.specs.Prelude.{◌≡◌, ◌≢◌, Result, None, slice_index};
+ghost use Rattle.std.specs.Result.{result_ok};
+ghost use Rattle.runtext.specs.Calls.{all_blank, call_of, line_of};
 
 use ledger::Call;
+use std::str::FromStr;
 
 // What a line says, where it is understood.
 #[derive(Clone, Copy)]
@@ -14,40 +16,43 @@ pub enum RunLine {
     Call(Call),
 }
 
-// Reads a line, without its line feed; none where it is not understood.
-pub fn parse_call(line: &str) -> Option<RunLine>
-    ensures { result ≡ line_of line.now }
-{
-    if line.starts_with('#') || is_blank(line.as_bytes()) {
-        return Some(RunLine::Nothing);
+// A line that says nothing of a run.
+#[derive(Clone, Copy, Debug, PartialEq, Eq)]
+pub struct NotUnderstood;
+
+// Reads a line, without its line feed.
+impl FromStr for RunLine {
+    type Err = NotUnderstood;
+
+    ghost from_str_gives = { λ line r. result_ok r ≡ line_of line };
+
+    fn from_str(line: &str) -> Result<RunLine, NotUnderstood> {
+        if line.starts_with('#') || is_blank(line.as_bytes()) {
+            return Ok(RunLine::Nothing);
+        }
+        if line == "read" {
+            return Ok(RunLine::Read);
+        }
+        let call = call_from(line).ok_or(NotUnderstood)?;
+        Ok(RunLine::Call(call))
     }
-    if line == "read" {
-        return Some(RunLine::Read);
-    }
-    let call = call_from(line)?;
-    Some(RunLine::Call(call))
 }
 
 fn is_blank(line: &[u8]) -> bool
     ensures { result ≡ all_blank line.now }
 {
-    for c in line {
-        if *c != b' ' {
-            return false;
-        }
-    }
-    true
+    line.iter().all(|c| *c == b' ')
 }
 
 fn call_from(line: &str) -> Option<Call>
     ensures { result ≡ call_of line.now }
 {
     if let Some(digits) = line.strip_prefix("step ") {
-        let point = usize_from(digits)?;
+        let point = number_from(digits)?;
         return Some(Call::Step(point));
     }
     if let Some(digits) = line.strip_prefix("touch ") {
-        let block = u32_from(digits)?;
+        let block = number_from(digits)?;
         return Some(Call::Touch(block));
     }
     match line {
@@ -58,22 +63,15 @@ fn call_from(line: &str) -> Option<Call>
     }
 }
 
-// A decimal number without sign.
-fn usize_from(digits: &str) -> Option<usize>
-    ensures { result ≡ number_of 64 digits.now }
+// A number of the type that is wanted, without the sign that `parse` takes.
+pub fn number_from<T: FromStr>(digits: &str) -> Option<T>
+where
+    T::Err: Drop,
+    ensures signed { slice_index digits.now 0 ≡ 43 → result ≡ None }
+    ensures plain { slice_index digits.now 0 ≢ 43 → (r : Result T T.Err) × T.from_str_gives digits.now r × (result ≡ result_ok r) }
 {
     if digits.starts_with('+') {
         return None;
     }
-    digits.parse::<usize>().ok()
-}
-
-// A decimal number without sign.
-fn u32_from(digits: &str) -> Option<u32>
-    ensures { result ≡ number_of 32 digits.now }
-{
-    if digits.starts_with('+') {
-        return None;
-    }
-    digits.parse::<u32>().ok()
+    digits.parse().ok()
 }

@@ -6,7 +6,7 @@ ghost use Rattle.runtext.specs.Hex.{digit_of, hex_bytes};
 use std::alloc::{AllocError, Global};
 
 // The bytes of pairs of hexadecimal digits, lower or upper case, with blanks anywhere; none where the text is not such
-// pairs.
+// pairs. Not by the kit's decoder: it takes no blanks, and has one error for bad digits and for want of memory.
 pub fn bytes_from_hex(heap: Global, hex: &[u8]) -> Result<Option<Vec<u8>>, AllocError>
     ensures { IfOk result (λ v. option_map vec_items v ≡ hex_bytes hex.now) }
 {
@@ -33,6 +33,7 @@ pub fn bytes_from_hex(heap: Global, hex: &[u8]) -> Result<Option<Vec<u8>>, Alloc
     }
 }
 
+// Not by `char::to_digit`: it gives a `u32`, which would have to be cast back.
 fn digit_from(c: u8) -> Option<u8>
     ensures { result ≡ digit_of c }
 {

@@ -4,7 +4,8 @@ ghost use Rattle.std.specs.Prelude.{◌≡◌, ◌≤◌, true, length, take};
 ghost use Rattle.task.specs.Contents.{point_with};
 ghost use Rattle.task.specs.Legal.{legal_point};
 
-// A point of a task: at most one access, and the points that may come next.
+// A point of a task: at most one access, and the points that may come next. These lie in an array with their number,
+// since a point is copied, and no list of the library's is `Copy`.
 #[derive(Clone, Copy)]
 pub struct Point {
     access: Option<u32>,

@@ -2,7 +2,9 @@
 use Rattle.std.proofs.Common.{◌≡◌, ℕ, ◌+◌, ◌-◌, ◌*◌, ◌<◌, ◌≤◌, List, [], ◌∷◌, ◌++◌, map, length, get_or, take, drop, sym, refl, ap, ◌∙◌, subst, append_assoc, append-nil, arith, length-append, length-drop}
 use borrow.Rule.Slice.PartMut.{put_mid, post_of}
 use Rattle.std.specs.List.{flat_map}
-use Rattle.std.proofs.lemmas.List.{take_at, drop_at, drop-drop, drop_all, take_rest, take_more, take-append-drop, flat_map_more}
+use Rattle.std.proofs.lemmas.List.Concat.{flat_map-append}
+use Rattle.std.proofs.lemmas.List.Folds.{flat_map-map, length-flat_map-take}
+use Rattle.std.proofs.lemmas.List.{take_at, drop_at, drop-drop, drop_all, take_rest, take_more, flat_map_more}
 use Rattle.fields.specs.Layout.{FieldContents, field_bytes, end}
 use Rattle.task.specs.Contents.{PointContents, TaskContents}
 use Rattle.task.specs.Meaning.{all_contents}
@@ -43,26 +45,14 @@ filled_more at m xs ys before mid new f h g =
     )
 
 module _ {X : Type 0} (bytes : X → List ℕ) where
-  pub joined_append : (xs ys : List X) → flat_map bytes (xs ++ ys) ≡ flat_map bytes xs ++ flat_map bytes ys
-  joined_append [] ys = refl
-  joined_append (x ∷ xs) ys = ap (λ zs. bytes x ++ zs) (joined_append xs ys) ∙ sym (append_assoc (bytes x) (flat_map bytes xs) (flat_map bytes ys))
-
   pub joined_next : (xs : List X) (i : ℕ) (d : X) → i < length xs → flat_map bytes (take (i + 1) xs) ≡ flat_map bytes (take i xs) ++ bytes (get_or xs i d)
   joined_next xs i d h = ap (flat_map bytes) (take_more xs i d h) ∙ sym (flat_map_more bytes [] (take i xs) (get_or xs i d))
-
-  -- what the first i and the next take is no more than what all take
-  pub joined_within : (xs : List X) (i : ℕ) (d : X) → i < length xs → length (flat_map bytes (take i xs)) + length (bytes (get_or xs i d)) ≤ length (flat_map bytes xs)
-  joined_within xs i d h =
-      let a = ap length (joined_next xs i d h) ∙ length-append (flat_map bytes (take i xs)) (bytes (get_or xs i d)) in
-      let b = ap (λ (zs : List X). length (flat_map bytes zs)) (take-append-drop (i + 1) xs) in
-      let c = ap length (joined_append (take (i + 1) xs) (drop (i + 1) xs)) ∙ length-append (flat_map bytes (take (i + 1) xs)) (flat_map bytes (drop (i + 1) xs)) in
-      omega arith
 
 -- a loop that writes the bytes of each of xs in turn
 module _ {X : Type 0} (bytes : X → List ℕ) (xs : List X) (i : ℕ) (d : X) (at : ℕ) (out was : List ℕ) (more : i < length xs)
     (filled : Filled (flat_map bytes (take i xs)) was out at) (kept : length out ≡ length was) (fits : length (flat_map bytes xs) ≤ length was) where
   pub next_fits : at + length (bytes (get_or xs i d)) ≤ length out
-  next_fits = let w = joined_within bytes xs i d more in let a = filled.0 in omega arith
+  next_fits = let w = length-flat_map-take bytes xs i d more in let a = filled.0 in omega arith
 
   -- and so behind the first
   pub next_fits_behind : length (bytes (get_or xs i d)) ≤ length (take (length out - at) (drop at out))
@@ -83,18 +73,14 @@ pub evicting_length : (bs : List ℕ) → length (evicting_bytes bs) ≡ 7 * len
 evicting_length [] = refl
 evicting_length (b ∷ bs) = let i = evicting_length bs in let l = length-append (field_bytes (evicting_field b)) (evicting_bytes bs) in omega arith
 
-joined_map : {X Y : Type 0} (g : Y → List ℕ) (f : X → Y) (xs : List X) → flat_map g (map f xs) ≡ flat_map (λ x. g (f x)) xs
-joined_map g f [] = refl
-joined_map g f (x ∷ xs) = ap (λ zs. g (f x) ++ zs) (joined_map g f xs)
-
 pub last_bytes : (bs : List ℕ) → evicting_bytes bs ++ (4 ∷ 0 ∷ 0 ∷ []) ≡ flat_map field_bytes (last_fields bs)
-last_bytes bs = sym (joined_append field_bytes (map evicting_field bs) (end ∷ []) ∙ ap (λ zs. zs ++ (4 ∷ 0 ∷ 0 ∷ [])) (joined_map field_bytes evicting_field bs))
+last_bytes bs = sym (flat_map-append field_bytes (map evicting_field bs) (end ∷ []) ∙ ap (λ zs. zs ++ (4 ∷ 0 ∷ 0 ∷ [])) (flat_map-map field_bytes evicting_field bs))
 
 -- the points as the code has them, and the fields after them
 pub points_first : (shown : List Point) (ps : List PointContents) (fs : List FieldContents) → all_contents shown ≡ ps
     → points_bytes shown ++ flat_map field_bytes fs ≡ flat_map field_bytes (map point_field ps ++ fs)
 points_first shown ps fs e =
-    sym (joined_append field_bytes (map point_field ps) fs
+    sym (flat_map-append field_bytes (map point_field ps) fs
     ∙ ap (λ (qs : List PointContents). flat_map field_bytes (map point_field qs) ++ flat_map field_bytes fs) (sym e)
     ∙ ap (λ zs. zs ++ flat_map field_bytes fs) (bytes_of_contents shown))
 

@@ -1,7 +1,7 @@
 -- How many bytes the fields of points have. Assumes nothing.
-use Rattle.std.proofs.Common.{◌≡◌, ℕ, ◌+◌, ◌*◌, ◌≤◌, List, [], ◌∷◌, ◌++◌, map, length, take, Some, None, Option, refl, sym, ap, ◌∙◌, arith, length-append, length-take}
-use Rattle.std.specs.List.{flat_map, sum_by}
-use Rattle.std.proofs.lemmas.List.Sums.{sum_by-cons}
+use Rattle.std.proofs.Common.{◌≡◌, ℕ, ◌+◌, ◌*◌, ◌≤◌, List, [], ◌∷◌, map, length, take, Some, None, Option, ap, ◌∙◌, arith, length-append, length-take}
+use Rattle.std.specs.List.{flat_map}
+use Rattle.std.proofs.lemmas.List.Folds.{flat_map-map}
 use Rattle.std.proofs.lemmas.List.{take-map}
 use Rattle.fields.specs.Layout.{field_bytes}
 use Rattle.task.specs.Contents.{PointContents}
@@ -17,8 +17,7 @@ points_bytes ps = flat_map point_bytes ps
 
 -- the fields of what the points say are those of the points
 pub bytes_of_contents : (ps : List Point) → flat_map field_bytes (map point_field (all_contents ps)) ≡ points_bytes ps
-bytes_of_contents [] = refl
-bytes_of_contents (p ∷ ps) = ap (λ (bs : List ℕ). point_bytes p ++ bs) (bytes_of_contents ps)
+bytes_of_contents ps = flat_map-map field_bytes point_field (all_contents ps) ∙ flat_map-map (λ p. field_bytes (point_field p)) point_contents ps
 
 pub place_of : (ps : List Point) (k : ℕ) → point_place (all_contents ps) k ≡ 9 + length (points_bytes (take k ps))
 place_of ps k =
@@ -45,9 +44,3 @@ points_small (p ∷ ps) =
     let a = point_small p in
     let e = length-append (point_bytes p) (points_bytes ps) in
     omega arith
-
--- the bytes of points, added up
-pub sizes_summed : (ps : List Point) → sum_by (λ p. length (point_bytes p)) ps ≡ length (points_bytes ps)
-sizes_summed [] = refl
-sizes_summed (p ∷ ps) =
-    sum_by-cons (λ q. length (point_bytes q)) p ps ∙ ap (λ n. length (point_bytes p) + n) (sizes_summed ps) ∙ sym (length-append (point_bytes p) (points_bytes ps))

@@ -1,11 +1,11 @@
-use Rattle.runtext.proofs.CallSteps.{blank_ends, blank_more, other_ends}
+use Rattle.std.proofs.Common.{rules, eqb, ◌∙◌}
+use borrow.Author.Tests.{tests}
+use Rattle.std.proofs.lemmas.Iterator.{YieldsList-from_slice}
+use Rattle.std.proofs.lemmas.Iterator.Search.{all_from_yields_List}
+use Rattle.runtext.proofs.CallSteps.{blank_all}
 use Rattle.runtext.proofs.calls.is_blank.Goals as goal
 
-pub loop-c-preserved : goal.loop-c-preserved
-loop-c-preserved c = blank_more c.args.line.now c.loop-c.c-index c.loop-c-test.true c.if-c-ne32.false c.loop-c.invariant
-
-pub returns-then-c-ne32 : goal.returns-then-c-ne32
-returns-then-c-ne32 c = other_ends c.args.line.now c.loop-c.c-index c.loop-c-test.true c.if-c-ne32.true c.loop-c.invariant
-
 pub returns : goal.returns
-returns c = blank_ends c.args.line.now c.loop-c.c-index c.loop-c-test.false c.loop-c.invariant
+returns c =
+    all_from_yields_List (λ x. eqb x 32) _ _ _ c.all.ensures.ran (YieldsList-from_slice c.args.line.now cc) (λ x b q k. search (rules, tests))
+    ∙ blank_all c.args.line.now

@@ -1,4 +1,4 @@
-use Rattle.std.proofs.Common.{◌≡◌, ℕ, suc, ◌+◌, ◌<◌, Bool, false, not, List, [], ◌∷◌, length, Some, None, Option, sym, refl, ap, ◌∙◌, arith}
+use Rattle.std.proofs.Common.{◌≡◌, ℕ, suc, ◌+◌, ◌<◌, Bool, not, List, [], ◌∷◌, length, Some, None, Option, sym, refl, ap, ◌∙◌, arith}
 use Rattle.std.proofs.lemmas.List.{length-map}
 use Rattle.std.proofs.lemmas.Bool.{cond-true, le-leb}
 use Rattle.task.specs.Contents.{PointContents, TaskContents}
@@ -8,21 +8,10 @@ use Rattle.task.specs.Legal.{closed_point, first_open}
 use Rattle.task.specs.Lists.{first_from}
 use Rattle.task.specs.Meaning.{point_contents}
 use Rattle.task.specs.Drafts.{draft_contents}
-use Rattle.task.proofs.Drafting.{kept}
-use Rattle.taskformat.specs.Reading.{is_empty}
 use Rattle.taskfile.proofs.read.close.Goals as goal
 
 with_points : (p : PointContents) (ps : List PointContents) → completion (p ∷ ps) ≡ closing (first_open (p ∷ ps))
 with_points p ps = cond-true _ _ no_point (le-leb 1 (length (p ∷ ps)) (omega arith))
-
--- a draft with points is whole or names a point that it lacks, one of its own
-some_complete : (ps : List PointContents) → is_empty ps ≡ false → completion ps ≡ no_point → ⊥
-some_complete [] h e = let z : ◌≡◌ {A = ℕ} 0 1 = cc in omega arith
-some_complete (p ∷ ps) h e = by (first_open (p ∷ ps)) (sym (with_points p ps) ∙ e)
-  where
-    by : (o : Option ℕ) → closing o ≡ no_point → ⊥
-    by None f = let z : ◌≡◌ {A = ℕ} 0 1 = cc in omega arith
-    by (Some k) f = let z : ◌≡◌ {A = ℕ} 0 1 = cc in omega arith
 
 first_within : {X : Type 0} (i k : ℕ) (test : X → Bool) (xs : List X) → first_from i test xs ≡ Some k → k < i + length xs
 first_within i k test [] e = absurd (let z : ◌≡◌ {A = ℕ} 0 1 = cc in omega arith)
@@ -36,16 +25,12 @@ open_within (p ∷ ps) k e = by (first_open (p ∷ ps)) refl (sym (with_points p
     by None f g = absurd (let z : ◌≡◌ {A = ℕ} 0 1 = cc in omega arith)
     by (Some j) f g = let same : j ≡ k = cc in let h = first_within 0 j (λ q. not (closed_point (length (p ∷ ps)) q)) (p ∷ ps) f in omega arith
 
-pub unreachable-requires : goal.unreachable-requires
-unreachable-requires c = some_complete (draft_contents c.args.draft).points c.requires (c.in-Err.ensures.0 ∙ ap cause_said c.in-NoPoint.is)
-
-pub point_place-requires : goal.point_place-requires
-point_place-requires c =
+pub point_place-requires-clause-within : goal.point_place-requires-clause-within
+point_place-requires-clause-within c =
     let e = c.in-Err.ensures in
     let d = c.args.draft in
     let within = open_within (draft_contents d).points c.in-NoSuccessor.k (e.0 ∙ ap cause_said c.in-NoSuccessor.is) in
     let shown = length-map c.points.result.now point_contents in
     let same = ap length c.points.ensures in
     let back = ap (λ (t : TaskContents). length t.points) e.1 in
-    let few = (kept (draft_contents d) d.legal).points_few in
-    record { within = omega arith; few = omega arith }
+    omega arith

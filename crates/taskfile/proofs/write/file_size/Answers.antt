@@ -10,14 +10,6 @@ use Rattle.taskfile.proofs.PointBytes.{points_bytes, place_of, points_small}
 use Rattle.taskfile.proofs.Filling.{whole_length}
 use Rattle.taskfile.proofs.write.file_size.Goals as goal
 
-pub point_place-requires : goal.point_place-requires
-point_place-requires c =
-    let d = c.args.task.now.draft in
-    let k = (kept (draft_contents d) d.legal).points_few in
-    let l = length-map c.points-points.result.now point_contents in
-    let e = ap length c.points-points.ensures in
-    record { within = omega arith; few = omega arith }
-
 -- what is added up is the length of the file
 module _ (shown : List Point) (d : TaskDraft) (place : ℕ) (blocks : List ℕ) (e : all_contents shown ≡ (draft_contents d).points)
     (p : place ≡ point_place (all_contents shown) (length shown)) (b : blocks ≡ (draft_contents d).evicting) where

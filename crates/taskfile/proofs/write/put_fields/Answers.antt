@@ -1,4 +1,4 @@
-use Rattle.std.proofs.Common.{◌≡◌, ℕ, List, ◌++◌, length, ap, arith, length-append}
+use Rattle.std.proofs.Common.{◌≡◌, ℕ, List, ◌++◌, length, ap, arith}
 use Rattle.fields.specs.Layout.{field_bytes}
 use Rattle.std.specs.List.{flat_map}
 use Rattle.task.specs.Contents.{TaskContents}
@@ -7,7 +7,7 @@ use Rattle.task.specs.Tasks.{contents}
 use Rattle.task.specs.declared.point.Point.{Point}
 use Rattle.taskformat.specs.Writing.{fields_after_header, last_fields}
 use Rattle.taskfile.proofs.PointBytes.{points_bytes}
-use Rattle.taskfile.proofs.Filling.{filled_as, filled_within, points_first, two_parts, first_fits, second_fits}
+use Rattle.taskfile.proofs.Filling.{filled_as, points_first, two_parts, first_fits, second_fits}
 use Rattle.taskfile.proofs.write.put_fields.Goals as goal
 
 abbrev last : TaskContents → List ℕ
@@ -20,28 +20,12 @@ parts shown t e = points_first shown t.points (last_fields t.evicting) e
 pub put_all-at-requires : goal.put_all-at-requires
 put_all-at-requires c = let t = contents c.args.task.now in first_fits (points_bytes c.points.result.now) (last t) _ c.args.out.now (parts c.points.result.now t c.points.ensures) c.requires
 
-pub slice_bounds-put_last-count : goal.slice_bounds-put_last-count
-slice_bounds-put_last-count c = filled_within _ c.args.out.now c.put_all-at.new.out c.put_all-at.result c.put_all-at.ensures
-
-pub slice_bounds-put_last-start : goal.slice_bounds-put_last-start
-slice_bounds-put_last-start c = filled_within _ c.args.out.now c.put_all-at.new.out c.put_all-at.result c.put_all-at.ensures
-
 pub put_last-requires : goal.put_last-requires
 put_last-requires c =
     let t = contents c.args.task.now in
     let b = ap (λ (bs : List ℕ). length (flat_map field_bytes (last_fields bs))) c.evicting.ensures in
     let f = second_fits (points_bytes c.points.result.now) (last t) _ c.args.out.now c.put_all-at.new.out c.put_all-at.result (parts c.points.result.now t c.points.ensures) c.requires c.put_all-at.ensures in
     omega arith
-
-pub overflow_add-result : goal.overflow_add-result
-overflow_add-result c =
-    let t = contents c.args.task.now in
-    let b = ap (λ (bs : List ℕ). length (flat_map field_bytes (last_fields bs))) c.evicting.ensures in
-    let n = ap length (parts c.points.result.now t c.points.ensures) in
-    let l = length-append (points_bytes c.points.result.now) (last t) in
-    let m = c.put_last.ensures.0 in
-    let k = c.put_all-at.ensures.0 in
-    omega (arith, c.requires)
 
 pub returns : goal.returns
 returns c =
