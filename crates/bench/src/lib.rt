@@ -18,8 +18,7 @@ use cache::lru::Lru;
 use ledger::{Counts, State};
 use setup::Setup;
 
-// A task at one of its points, on a cache. It keeps each point's resilient number, and the lists of a
-// plain LRU run.
+// A task at one of its points, on a cache. It keeps each point's resilient number, and the lists of a plain LRU run.
 #[derive(Drop)]
 pub struct Bench<'t, C: Cache> {
     setup: Setup<'t>,

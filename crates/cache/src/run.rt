@@ -17,6 +17,7 @@ pub fn run_accesses<C: Cache>(cache: &mut C, blocks: &[u32]) -> usize
     ensures bounded { (row : List (List ℕ)) → C.vouches cache.old row → result ≤ possible_misses (C.sets cache.old) (C.life cache.old) blocks.now row }
     ensures bounded_from_empty { result ≤ possible_misses (C.sets cache.old) (C.life cache.old) blocks.now (empty_row (C.sets cache.old)) }
 {
+    // a loop, since of a closure that moves the cache on nothing would be known afterwards
     let mut misses = 0;
     for block in blocks {
         match cache.access(*block) {

@@ -108,6 +108,7 @@ impl Tree {
     pub fn victim(self, bits: u8) -> u8
         ensures { result ≡ victim self.ways bits }
     {
+        // a loop, since a fold's closure would have to take any place, and twice that may not fit
         let mut place: u8 = 1;
         for _level in 0..self.levels() {
             place = 2 * place + ((bits >> place) & 1);

@@ -6,7 +6,6 @@ ghost use Rattle.cache.specs.ListCaches.{rows_of};
 ghost use Rattle.cache.specs.Outcomes.{outcome_of};
 ghost use Rattle.cache.specs.Policies.{row_after};
 ghost use Rattle.cache.specs.Sizes.{legal_ways, refusal};
-ghost use Rattle.std.proofs.Common.{rules, arith};
 
 use crate::Cache;
 use crate::block_list::BlockList;
@@ -53,7 +52,7 @@ impl<P: Policy> Cache for ListCache<P> {
 
     ghost vouches = { λ c row. P.vouches c.sets c.ways (rows_of c) row };
 
-    ghost has_sets = { first_of (Prim.search rules, Prim.grind (arith, Self.row.coded.inj)) };
+    ghost has_sets = { λ c. (c.some_sets, c.few_sets) };
 
     ghost has_life = { λ c. P.laws.life_within c.ways c.some_ways c.few_ways };
 

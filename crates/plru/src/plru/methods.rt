@@ -62,13 +62,13 @@ impl Cache for Plru {
 
     ghost vouches = { λ c row. Guarded (contents c) row };
 
-    ghost has_sets = { first_of (Prim.search rules, Prim.grind (arith, Self.row.coded.inj)) };
+    ghost has_sets = { λ c. (c.some, c.few) };
 
     ghost has_life = { first_of (Prim.search rules, Prim.grind (arith, Self.row.coded.inj)) };
 
     ghost vouches_for_empty_lists = { λ c. empty_guarded (contents c) c.some (states_length c.sets c.lines (omega arith)) };
 
-    ghost vouches_for_rows = { first_of (Prim.search rules, Prim.grind (arith, Self.row.coded.inj)) };
+    ghost vouches_for_rows = { λ c row v. v.0 };
 
     ghost holds_what_it_vouches_for = { λ c row b v h. guarded_held (contents c) c.some (states_length c.sets c.lines (omega arith)) row b v h };
 
