@@ -6,13 +6,10 @@ use cache::Cache;
 use cache::fault::CacheFault;
 use cache::fifo::Fifo;
 use cache::lru::Lru;
-use conflicts::ConflictKind;
-use fixpoint::RowKind;
 use ledger::{Call, Counts};
 use plru::plru::Plru;
 use replaying::{Played, replay};
 use report::refusal_line;
-use rowkinds::ages::AgeKind;
 use runtext::answers::{answer_line, counts_line};
 use runtext::calls::{NotUnderstood, RunLine, number_from};
 use runtext::hex::bytes_from_hex;
@@ -20,11 +17,10 @@ use std::alloc::{AllocError, AllocFailed, Global};
 use std::io::{BufRead, BufReader};
 use std::str::FromStr;
 use std::{env, io};
-use tables::Tables;
+use tables::TableMemory;
 use task::task::Task;
 use taskfile::fault::TaskFault;
 use taskfile::read_task;
-use widest::next_uses::NextUseKind;
 
 const HELP: &str = "usage: replay < RUN.txt
 
@@ -181,13 +177,7 @@ fn read_script(rt: &HostRuntime, script: &mut Script) -> Result<(), Stop> {
 // Prints what the calls said, and the counts where they are wanted, in one piece; the counts at the end are given back.
 fn print_asked(rt: &HostRuntime, asked: &[RunLine], played: &[Played]) -> anyhow::Result<Counts> {
     let heap = rt.alloc();
-    let mut counts = Counts {
-        steps: 0,
-        interruptions: 0,
-        loads: 0,
-        plain: 0,
-        charge: 0,
-    };
+    let mut counts = Counts::default();
     let mut answers = played.iter();
     let mut text = String::new(heap);
     for line in asked {
@@ -227,11 +217,8 @@ fn play<C: Cache + Drop>(
             return Err(anyhow!("refused"));
         }
     };
-    let mut ages = [AgeKind::of(task).start(); 128];
-    let mut reuses = ages;
-    let mut conflicts = [ConflictKind::of(task).start(); 128];
-    let mut widest = [NextUseKind::of(task).start(); 128];
-    let mut tables = Tables::over(&mut ages, &mut reuses, &mut conflicts, &mut widest);
+    let mut memory = TableMemory::<128>::of(task);
+    let mut tables = memory.lend();
     let heap = rt.alloc();
     let calls: Vec<Call> = asked.iter().filter_map(call_in).collect(heap)?;
     let run = replay(heap, task, &mut tables, cache, &calls)?;
