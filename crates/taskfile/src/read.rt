@@ -54,18 +54,9 @@ fn begin(heap: Global, body: &[u8]) -> Result<TaskDraft, TaskFault>
     requires { sized (header_field body.now) ≡ true }
     ensures { Begun body.now result }
 {
-    let [sets, ways, a, b, c, d] = body else {
-        unreachable()
-    };
-    let reload = u32::from_be_bytes([*a, *b, *c, *d]);
-    Ok(TaskDraft::new(
-        heap,
-        CacheParameters {
-            sets: *sets,
-            ways: *ways,
-            reload,
-        },
-    )?)
+    let [sets, ways, a, b, c, d]: [u8; 6] = body.try_into().unwrap();
+    let reload = u32::from_be_bytes([a, b, c, d]);
+    Ok(TaskDraft::new(heap, CacheParameters { sets, ways, reload })?)
 }
 
 // The task of a file whose end field was read; `place` follows it.

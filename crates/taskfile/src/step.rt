@@ -55,8 +55,7 @@ fn step_evicting(draft: &mut TaskDraft, body: &[u8]) -> Result<Progress, TaskCau
     if draft.points().is_empty() {
         return Err(TaskCause::Order);
     }
-    let [a, b, c, d] = body else { unreachable() };
-    draft.add_evicting(u32::from_be_bytes([*a, *b, *c, *d]))?;
+    draft.add_evicting(u32::from_be_bytes(body.try_into().unwrap()))?;
     Ok(Progress::Taken)
 }
 
