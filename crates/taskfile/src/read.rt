@@ -38,9 +38,8 @@ fn read_fields(heap: Global, file: &[u8]) -> Result<Task, TaskFault>
     let mut place = HEADER_SIZE;
     'fields: loop {
         let taken = take_field(rest, place)?;
-        let progress = step(&mut draft, taken.field).map_err(|cause| TaskFault::Task(
-            cause, place,
-        ))?;
+        let refused = |cause| TaskFault::Task(cause, place);
+        let progress = step(&mut draft, taken.field).map_err(refused)?;
         if let Progress::Ended = progress {
             return close(draft, taken.after, place + HEAD_SIZE);
         }
