@@ -2,7 +2,7 @@
 // that an accepted file is written back as, or the refusal. The expected answers are in `stdout`.
 #![tactic(auto)]
 
-use anyhow::Context;
+use anyhow::{Context, anyhow};
 use report::refusal_line;
 use std::alloc::Global;
 use std::io::{BufRead, BufReader};
@@ -11,10 +11,13 @@ use taskfile::{read_task, write_task};
 // Longer than any task file that is accepted.
 const MAX_FILE: usize = 2048;
 
-// The bytes of pairs of hexadecimal digits; `-` stands for none.
+// The bytes of pairs of hexadecimal digits in lower case; `-` stands for none.
 fn bytes_from(heap: Global, digits: &str) -> anyhow::Result<Vec<u8>> {
     if digits == "-" {
         return Ok(Vec::new(heap));
+    }
+    if digits.as_bytes().iter().any(u8::is_ascii_uppercase) {
+        return Err(anyhow!("no hexadecimal digit"));
     }
     Ok(hex::decode(heap, digits)?)
 }
