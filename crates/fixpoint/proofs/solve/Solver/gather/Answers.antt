@@ -23,9 +23,3 @@ loop-q-preserved g c =
       | else-is_input w ↦
           merged_below_unfed M J c.args.rows.now c.args.p q c.loop-q.all c.if-is_input.all c.is_input.result c.is_input.ensures w.if-is_input.false c.loop-q.invariant w.all-is
     ]
-
-pub returns : goal.returns
-returns g c =
-    let s = c.args.self.now in
-    let n = length-map s.points.now point_contents in
-    c.loop-q.invariant ∙ ap (merged_below _ _ c.args.rows.now c.args.p) (omega (arith, c.requires.filled))
