@@ -1,6 +1,8 @@
 -- The bytes of a text in hexadecimal, from what is left of the text and the first digit of a pair that is half read.
 use Rattle.std.proofs.Common.{◌≡◌, ℕ, ◌+◌, ◌*◌, ◌<◌, ◌≤◌, true, false, eqb, List, [], ◌∷◌, ◌++◌, length, get_or, drop, Some, None, Option, sym, refl, ap, ◌∙◌, append_assoc, arith, eq-eqb, ne_eqb}
 use Rattle.std.proofs.lemmas.Bool.Decides.{nat_tests}
+use Rattle.std.specs.Char.{digit_value}
+use Rattle.std.specs.Option.{SomeIff}
 use Rattle.std.proofs.lemmas.List.{append-nil, at_drop_all, at_drop_more}
 use Rattle.runtext.specs.Hex.{before, digit_of, digits_of, hex_bytes, paired_in}
 
@@ -19,6 +21,11 @@ after bs (Some cs) = Some (bs ++ cs)
 abbrev pub Small : Option ℕ → Type 0
 Small None = Unit {0}
 Small (Some h) = h < 16
+
+-- what `to_digit` answers on a byte
+pub digit_read : (c : ℕ) (r : Option ℕ) → SomeIff r (digit_value c < 16) (digit_value c) → r ≡ digit_of c
+digit_read c None h = grind (arith, nat_tests)
+digit_read c (Some d) h = grind (arith, nat_tests)
 
 at_blank : (held : Option ℕ) (c : ℕ) (text : List ℕ) → eqb c 32 ≡ true → bytes_left held (c ∷ text) ≡ bytes_left held text
 at_blank held c text e = rw e

@@ -48,11 +48,11 @@ fn call_from(line: &str) -> Option<Call>
     ensures { result ≡ call_of line.now }
 {
     if let Some(digits) = line.strip_prefix("step ") {
-        let point = number_from(digits)?;
+        let point: usize = number_from(digits)?;
         return Some(Call::Step(point));
     }
     if let Some(digits) = line.strip_prefix("touch ") {
-        let block = number_from(digits)?;
+        let block: u32 = number_from(digits)?;
         return Some(Call::Touch(block));
     }
     match line {

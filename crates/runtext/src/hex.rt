@@ -1,7 +1,7 @@
 // Bytes written in hexadecimal.
 ghost use Rattle.std.specs.Prelude.{◌≡◌, IfOk, vec_items};
 ghost use Rattle.std.specs.Option.{option_map};
-ghost use Rattle.runtext.specs.Hex.{digit_of, hex_bytes};
+ghost use Rattle.runtext.specs.Hex.{hex_bytes};
 
 use std::alloc::{AllocError, Global};
 
@@ -16,13 +16,13 @@ pub fn bytes_from_hex(heap: Global, hex: &[u8]) -> Result<Option<Vec<u8>>, Alloc
         if *c == b' ' {
             continue;
         }
-        let Some(digit) = digit_from(*c) else {
+        let Some(digit) = char::from(*c).to_digit(16) else {
             return Ok(None);
         };
         match high {
             None => high = Some(digit),
             Some(first) => {
-                bytes.push(16 * first + digit)?;
+                bytes.push((16 * first + digit) as u8)?;
                 high = None;
             }
         }
@@ -30,17 +30,5 @@ pub fn bytes_from_hex(heap: Global, hex: &[u8]) -> Result<Option<Vec<u8>>, Alloc
     match high {
         None => Ok(Some(bytes)),
         Some(_) => Ok(None),
-    }
-}
-
-// Not by `char::to_digit`: it gives a `u32`, which would have to be cast back.
-fn digit_from(c: u8) -> Option<u8>
-    ensures { result ≡ digit_of c }
-{
-    match c {
-        b'0'..=b'9' => Some(c - b'0'),
-        b'a'..=b'f' => Some(c - b'a' + 10),
-        b'A'..=b'F' => Some(c - b'A' + 10),
-        _ => None,
     }
 }

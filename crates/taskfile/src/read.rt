@@ -36,11 +36,11 @@ fn read_fields(heap: Global, file: &[u8]) -> Result<Task, TaskFault>
     let mut draft = begin(heap, body)?;
     let mut rest = first.after;
     let mut place = HEADER_SIZE;
+    // a loop and no iterator of fields: the place and the rest serve a step's refusal and the end as well
     'fields: loop {
         let taken = take_field(rest, place)?;
-        let progress = step(&mut draft, taken.field).map_err(|cause| TaskFault::Task(
-            cause, place,
-        ))?;
+        let refused = |cause| TaskFault::Task(cause, place);
+        let progress = step(&mut draft, taken.field).map_err(refused)?;
         if let Progress::Ended = progress {
             return close(draft, taken.after, place + HEAD_SIZE);
         }
@@ -54,18 +54,9 @@ fn begin(heap: Global, body: &[u8]) -> Result<TaskDraft, TaskFault>
     requires { sized (header_field body.now) ≡ true }
     ensures { Begun body.now result }
 {
-    let [sets, ways, a, b, c, d] = body else {
-        unreachable()
-    };
-    let reload = u32::from_be_bytes([*a, *b, *c, *d]);
-    Ok(TaskDraft::new(
-        heap,
-        CacheParameters {
-            sets: *sets,
-            ways: *ways,
-            reload,
-        },
-    )?)
+    let [sets, ways, a, b, c, d]: [u8; 6] = body.try_into().unwrap();
+    let reload = u32::from_be_bytes([a, b, c, d]);
+    Ok(TaskDraft::new(heap, CacheParameters { sets, ways, reload })?)
 }
 
 // The task of a file whose end field was read; `place` follows it.

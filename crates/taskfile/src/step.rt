@@ -20,6 +20,7 @@ pub enum Progress {
     Ended,
 }
 
+// That a body is as long as its tag allows stands in clauses, not in a type: a point's body has no fixed length.
 pub(crate) fn step(draft: &mut TaskDraft, field: Field<'_>) -> Result<Progress, TaskCause>
     requires { sized (field_contents field) ≡ true }
     ensures { Stepped (draft_contents draft.old) (field_contents field.entry) result (draft_contents draft.new) }
@@ -55,8 +56,7 @@ fn step_evicting(draft: &mut TaskDraft, body: &[u8]) -> Result<Progress, TaskCau
     if draft.points().is_empty() {
         return Err(TaskCause::Order);
     }
-    let [a, b, c, d] = body else { unreachable() };
-    draft.add_evicting(u32::from_be_bytes([*a, *b, *c, *d]))?;
+    draft.add_evicting(u32::from_be_bytes(body.try_into().unwrap()))?;
     Ok(Progress::Taken)
 }
 
