@@ -36,6 +36,7 @@ fn read_fields(heap: Global, file: &[u8]) -> Result<Task, TaskFault>
     let mut draft = begin(heap, body)?;
     let mut rest = first.after;
     let mut place = HEADER_SIZE;
+    // a loop and no iterator of fields: the place and the rest serve a step's refusal and the end as well
     'fields: loop {
         let taken = take_field(rest, place)?;
         let refused = |cause| TaskFault::Task(cause, place);

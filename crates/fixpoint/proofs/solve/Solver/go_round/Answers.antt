@@ -6,6 +6,9 @@ use Rattle.fixpoint.specs.Rounds.{job_of, visits}
 use Rattle.fixpoint.proofs.Idle.{Along, along_none, along_more, turned}
 use Rattle.fixpoint.proofs.solve.Solver.go_round.Goals as goal
 
+pub loop-k-init : goal.loop-k-init
+loop-k-init g c = along_none _ _ _
+
 pub loop-k-preserved : goal.loop-k-preserved
 loop-k-preserved g c =
     let s = c.args.self.now in
