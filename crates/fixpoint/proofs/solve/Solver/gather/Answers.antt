@@ -1,7 +1,6 @@
 use Rattle.std.proofs.Common.{sym, ap, ◌∙◌, arith}
-use lib.ListN.{length-map}
-use Rattle.task.specs.Meaning.{all_contents, point_contents}
-use Rattle.fixpoint.specs.Rounds.{job_of, merged_below}
+use Rattle.task.specs.Meaning.{all_contents}
+use Rattle.fixpoint.specs.Rounds.{job_of}
 use Rattle.fixpoint.proofs.Steps.{merged_below_none, merged_below_fed, merged_below_unfed, advanced_is}
 use Rattle.fixpoint.proofs.solve.Solver.gather.Goals as goal
 use Rattle.fixpoint.proofs.solve.Solver.gather.Goals.{then-is_input, else-is_input}
