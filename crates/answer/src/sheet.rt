@@ -5,7 +5,7 @@ ghost use Rattle.std.specs.Prelude.{◌≡◌, length};
 use numbers::PointNumbers;
 use tables::Rounds;
 
-// The records of a task's points (past the last point stand zeros), the largest resilient number, and the rounds of the tables.
+// In fixed memory, since analysing a task never lacks any: the records of its points (past the last point stand zeros), the largest resilient number, and the rounds of the tables.
 #[derive(Clone, Copy)]
 pub struct TaskSheet {
     pub records: [PointNumbers; 128],

@@ -15,6 +15,8 @@ impl<'t, C: Cache> Bench<'t, C> {
         self.obey(call)
     }
 
+    // The five calls by name, each one line: a generic form would be no shorter.
+
     // Performs the point's access, and moves to a successor.
     pub fn step(&mut self, to: usize) -> Result<Answer, BenchFault>
         ensures { Obeys self.old (Step to) result self.new }
@@ -50,7 +52,7 @@ impl<'t, C: Cache> Bench<'t, C> {
         self.call(Call::Resume)
     }
 
-    // The bar first, then what the state and the call say.
+    // The bar first, then what the state and the call say: one match shows every refusal.
     fn obey(&mut self, call: Call) -> Result<Answer, BenchFault>
         ensures { Performs self.old call result self.new }
     {

@@ -29,6 +29,7 @@ pub enum BenchFault {
 }
 
 impl BenchFault {
+    // `as` wants the enum's own type, so that each enum of causes says this for itself.
     pub fn number(self) -> u8
         ensures { result ≡ fault_number self }
     {

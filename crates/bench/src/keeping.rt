@@ -40,7 +40,7 @@ fn settled_numbers(task: &Task, tables: &mut Tables<'_>) -> [u16; 128]
     resilient_numbers(task, tables)
 }
 
-// The resilient number that the tables give each point.
+// The resilient number that the tables give each point. Clauses see an array as a list, so that each says its length.
 fn resilient_numbers(task: &Task, tables: &Tables<'_>) -> [u16; 128]
     requires { length (contents task.now).points ≤ shortest (rows_of tables.now) }
     ensures room { length result ≡ 128 }

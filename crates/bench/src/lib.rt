@@ -23,7 +23,8 @@ use setup::Setup;
 pub struct Bench<'t, C: Cache> {
     setup: Setup<'t>,
     cache: C,
-    // by point, in fixed memory, since a bench never lacks any
+    // by point, in fixed memory, since a bench never lacks any; that a history explains the bench is no invariant, since in the
+    // midst of a step none does
     resilient: [u16; 128],
     state: State,
     point: usize,

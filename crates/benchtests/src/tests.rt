@@ -136,6 +136,7 @@ fn check_calls<C: Cache + Drop>(
     cache: C,
     calls: &[(Call, Said)],
 ) -> Counts {
+    // by hand and not in a `TableMemory`, since one table is to be too short
     let mut ages = [AgeKind::of(task).start(); 5];
     let mut reuses = ages;
     let mut conflicts = [ConflictKind::of(task).start(); 5];

@@ -11,6 +11,7 @@ pub enum CacheFault {
 }
 
 impl CacheFault {
+    // `as` wants the enum's own type, so that each enum of causes says this for itself.
     pub fn number(self) -> u8
         ensures { result ≡ number self }
     {

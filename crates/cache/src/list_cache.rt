@@ -8,7 +8,8 @@ use crate::block_list::BlockList;
 use crate::policy::Policy;
 use std::marker::PhantomData;
 
-// A cache that keeps a list of its blocks for each set, which the policy moves on. The first `sets` lists are in use.
+// A cache that keeps a list of its blocks for each set, which the policy moves on. The first `sets` lists are in use;
+// making a cache never lacks memory.
 #[derive(Drop)]
 pub struct ListCache<P: Policy> {
     sets: u8,

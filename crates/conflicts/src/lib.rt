@@ -9,6 +9,7 @@ ghost use Rattle.std.specs.Prelude.{◌≡◌, ◌≤◌, length};
 use blocksets::BlockSet;
 
 // The conflict set of each of a task's blocks, or none, in the order of `Task::blocks`. Past the last block stands none.
+// A row is plain data in the caller's memory, without a heap.
 #[derive(Clone, Copy, PartialEq, Eq)]
 pub struct Conflicts {
     conflicts: [Option<BlockSet>; 64],

@@ -20,6 +20,7 @@ or why the file is refused, and then ends with status 1:
 ";
 
 fn main(rt: HostRuntime) -> anyhow::Result<()> {
+    // in each program: no library below both knows arguments
     if let Some(arg) = env::args(&rt)?.nth(1) {
         rt.print(HELP)?;
         return if arg.as_str() == "--help" {

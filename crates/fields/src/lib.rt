@@ -44,6 +44,7 @@ pub struct FieldFault {
 }
 
 impl FieldCause {
+    // `as` wants the enum's own type, so that each enum of causes says this for itself.
     pub fn number(self) -> u8
         ensures { result ≡ number self }
     {

@@ -27,6 +27,7 @@ fn answer(heap: Global, file: &[u8]) -> anyhow::Result<String> {
         Ok(task) => task,
         Err(fault) => return Ok(refusal_line(heap, fault)?),
     };
+    // the writer wants a buffer, and bytes of no file show what it leaves
     let mut out = [0xaa; MAX_FILE];
     let n = write_task(&task, &mut out)
         .ok()

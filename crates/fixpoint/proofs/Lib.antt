@@ -1,4 +1,3 @@
-pub mod Copied
 pub mod Steps
 pub mod Rising
 pub mod Idle

@@ -1,7 +1,8 @@
 ghost use Rattle.std.specs.Prelude.{◌≡◌, ◌<◌};
 ghost use Rattle.fixpoint.specs.Graph.{visited_at};
 
-// Which neighbours of a point its row is merged from: its predecessors or its successors.
+// Which neighbours of a point its row is merged from: its predecessors or its successors. The definitions name
+// the two, so that no function stands in their place.
 #[derive(Clone, Copy, Debug, PartialEq, Eq)]
 pub enum Direction {
     Forward,

@@ -1,4 +1,4 @@
-// How many blocks of each cache set pass a test.
+// How many blocks of each cache set pass a test, in fixed memory, since the numbers never lack any.
 ghost use Rattle.std.specs.Prelude.{ℕ, ◌<◌, ◌≤◌, ◌≡◌, Bool, ◌&&◌, length};
 ghost use Rattle.task.specs.Blocks.{distinct_blocks};
 ghost use Rattle.task.specs.Tasks.{contents};

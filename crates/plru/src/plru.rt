@@ -6,7 +6,7 @@ ghost use Rattle.plru.specs.Meaning.{all_fit};
 use crate::set::PlruSet;
 use crate::tree::Tree;
 
-// A tree PLRU cache. The first `sets` lines are in use.
+// A tree PLRU cache. The first `sets` lines are in use; making a cache never lacks memory.
 #[derive(Drop)]
 pub struct Plru {
     sets: u8,

@@ -241,6 +241,7 @@ fn play_on(
 }
 
 fn main(rt: HostRuntime) -> anyhow::Result<()> {
+    // in each program: no library below both knows arguments
     if let Some(arg) = env::args(&rt)?.nth(1) {
         rt.print(HELP)?;
         return if arg.as_str() == "--help" {

@@ -18,7 +18,8 @@ pub fn refusal_line(heap: Global, fault: TaskFault) -> Result<String, AllocError
     format!(in heap; "{fault}\n")
 }
 
-// The line for a task: its cache, and how many points and blocks it has.
+// The line for a task: its cache, and how many points and blocks it has. One `format!`, since `Display` would fix one text
+// for a task.
 pub fn summary_line(heap: Global, task: &Task) -> Result<String, AllocError>
     ensures { IfOk result (λ s. string_bytes s ≡ summary_text (contents task.now)) }
 {

@@ -3,7 +3,8 @@ mod methods;
 
 ghost use Rattle.std.specs.Prelude.{◌≡◌, ◌≤◌, length};
 
-// The age of each of a task's blocks, 0 to ways, in the order of `Task::blocks`. Past the last block stands `ways`.
+// The age of each of a task's blocks, 0 to ways, in the order of `Task::blocks`. Past the last block stands `ways`. A row
+// is plain data in the caller's memory, without a heap.
 #[derive(Clone, Copy, PartialEq, Eq)]
 pub struct Ages {
     ages: [u8; 64],

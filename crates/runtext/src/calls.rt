@@ -7,7 +7,7 @@ use ledger::Call;
 use std::str::FromStr;
 
 // What a line says, where it is understood.
-#[derive(Clone, Copy)]
+#[derive(Clone, Copy, Debug, PartialEq, Eq)]
 pub enum RunLine {
     // Blank, or a comment.
     Nothing,

@@ -25,7 +25,7 @@ pub fn analysis_text(
     Ok(text)
 }
 
-// The line for a point: its index and its four numbers.
+// The line for a point: its index and its four numbers. One `format!`, since `Display` would fix one text for the record.
 fn point_line(heap: Global, index: usize, numbers: PointNumbers) -> Result<String, AllocError>
     ensures { IfOk result (λ s. string_bytes s ≡ point_text index numbers) }
 {

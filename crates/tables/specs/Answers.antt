@@ -28,7 +28,8 @@ abbrev pub Settling : TaskContents → Rows → Rows → Result Rounds ShortTabl
 Settling t before after (Ok rounds) = AllSettled t before after rounds
 Settling t before after (Err e) = (shortest before < length t.points) × (after ≡ before)
 
--- the same memory is lent
+-- the same memory is lent. No invariant can say it, since a loan's name is no part of what the tables hold; so each call that is
+-- handed tables does
 pub record SameMemory (before after : Tables) : Type 0 where
   pub ages : after.ages.rows.ghost_name ≡ before.ages.rows.ghost_name
   pub reuses : after.reuses.rows.ghost_name ≡ before.reuses.rows.ghost_name

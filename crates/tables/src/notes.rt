@@ -10,6 +10,8 @@ use std::array;
 use task::task::Task;
 use widest::next_uses::NextUse;
 
+// Notes lie in fixed memory, since settling never lacks any. Clauses see an array as a list, so that each says its length.
+
 // The index of the block that each point accesses. Past the last point stands none.
 pub(crate) fn access_notes(task: &Task) -> [Option<usize>; 128]
     ensures room { length result ≡ 128 }

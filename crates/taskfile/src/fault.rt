@@ -26,6 +26,7 @@ pub enum TaskCause {
 }
 
 impl TaskCause {
+    // `as` wants the enum's own type, so that each enum of causes says this for itself.
     pub fn number(self) -> u8
         ensures { result ≡ task_number self }
     {

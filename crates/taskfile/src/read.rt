@@ -68,6 +68,7 @@ fn close(draft: TaskDraft, after: &[u8], place: usize) -> Result<Task, TaskFault
         _ if !after.is_empty() => Err(TaskFault::Task(TaskCause::Trailing, place)),
         Ok(task) => Ok(task),
         Err(unfinished) => match unfinished.cause {
+            // the draft has a point; a match has no shorter way to say that a case cannot be
             UnfinishedCause::NoPoint => unreachable(),
             UnfinishedCause::NoSuccessor(k) => {
                 Err(TaskFault::Task(

@@ -13,7 +13,7 @@ use fields::Field;
 use task::draft::TaskDraft;
 use task::point::Point;
 
-// What a field did.
+// What a field did. Neither step has a value, so that an `Option` or a `ControlFlow` would only hide which is which.
 #[derive(Clone, Copy, Debug, PartialEq, Eq)]
 pub enum Progress {
     Taken,

@@ -4,7 +4,8 @@ mod methods;
 ghost use Rattle.std.specs.Prelude.{◌≤◌};
 
 // For each of a task's blocks, in the order of `Task::blocks`, how many blocks conflict with it at its next use: the
-// largest number over the paths ahead, or `None`. Past the last block stands `None`.
+// largest number over the paths ahead, or `None`. Past the last block stands `None`. A row is plain data in the caller's
+// memory, without a heap.
 #[derive(Clone, Copy, PartialEq, Eq)]
 pub struct NextUses {
     counts: [Option<u8>; 64],

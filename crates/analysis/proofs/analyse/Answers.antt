@@ -1,4 +1,4 @@
-use Rattle.std.proofs.Common.{◌≡◌, ℕ, ◌-◌, ◌++◌, length, drop, refl, ap, ◌∙◌, inl, arith}
+use Rattle.std.proofs.Common.{◌≡◌, ℕ, ◌-◌, ◌++◌, length, drop, ap, ◌∙◌, arith}
 use borrow.Rule.Slice.PartMut.{post_of}
 use Rattle.std.proofs.lemmas.List.{take_at}
 use Rattle.std.proofs.lemmas.Slice.{drop-append-drop}
@@ -6,25 +6,8 @@ use Rattle.task.specs.Tasks.{contents}
 use Rattle.task.proofs.Drafting.{kept}
 use Rattle.tables.specs.Rows.{rows_of}
 use Rattle.analysis.specs.Sheets.{largest}
-use Rattle.analysis.proofs.Sheets.{settled_room, settled_sheet}
+use Rattle.analysis.proofs.Sheets.{settled_sheet}
 use Rattle.analysis.proofs.analyse.Goals as goal
-
-pub returns-then-sheet-n : goal.returns-then-sheet-n
-returns-then-sheet-n c =
-    let n = c.points-n.ensures.many in
-    record {
-      answer = record { short = inl (omega (arith, n, c.if-sheet-n.true)); tables_stay = refl; sheet_stays = refl };
-      lent = record { ages = refl; reuses = refl; conflicts = refl; widest = refl };
-    }
-
-pub fill-requires : goal.fill-requires
-fill-requires c =
-    let t = contents c.args.task.now in
-    let n = c.points-n.ensures.many in
-    record {
-      room = omega (arith, n, c.if-sheet-n.false);
-      settled = settled_room t (rows_of c.args.tables.now) (rows_of c.settle.new.self) c.in_ok-rounds.rounds c.in_ok-rounds.ensures.answer;
-    }
 
 pub returns : goal.returns
 returns c =
