@@ -18,7 +18,7 @@ use task::task::Task;
 use taskfile::fault::TaskFault;
 use taskfile::read_task;
 
-// The text for a file: the sheet of its task, or why it is refused.
+// The text for a file: the sheet of its task, or why it is refused. A refusal is an answer too, and no failure of the call.
 #[derive(Drop)]
 pub enum Reply {
     Accepted(String),

@@ -97,6 +97,7 @@ impl<'t, C: Cache> Bench<'t, C> {
         requires { IsOpenIn self.old Interrupted }
         ensures { Performs self.old (Touch block) result self.new }
     {
+        // a block that is not found is the cause, in the form that the bench's rules ask for
         let Some(_) = self.setup.task.evicting_index(block) else {
             return Err(BenchFault::NotEvicting);
         };

@@ -27,7 +27,8 @@ pub(crate) fn kept_numbers(setup: &Setup<'_>, tables: &mut Tables<'_>) -> [u16; 
     }
 }
 
-// Settles the tables, which have a row for each point, and answers each point's resilient number. Past the last point
+// Settles the tables, which have a row for each point (each private call says so, since tables do not know the task), and
+// answers each point's resilient number. Past the last point
 // stands 0.
 fn settled_numbers(task: &Task, tables: &mut Tables<'_>) -> [u16; 128]
     requires { length (contents task.now).points ≤ shortest (rows_of tables.old) }

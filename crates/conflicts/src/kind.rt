@@ -34,10 +34,11 @@ impl RowKind for ConflictKind {
 
     fn advance(&self, row: &Conflicts, note: &Option<usize>) -> Conflicts {
         match *note {
+            None => *row,
             Some(block) if block < self.blocks as usize => Conflicts {
                 conflicts: array::from_fn(|i| self.after_access(row, block, i)),
             },
-            _ => *row,
+            Some(_) => *row,
         }
     }
 

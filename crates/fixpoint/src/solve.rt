@@ -10,7 +10,8 @@ use crate::RowKind;
 use crate::direction::Direction;
 use task::point::Point;
 
-// What is to be settled: rows of a kind over points, with a note for each of them.
+// What is to be settled: rows of a kind over points, with a note for each of them. The rows change from call to call, so that each
+// call is lent them, and says how many there are.
 #[derive(Drop)]
 pub(crate) struct Solver<'a, K: RowKind> {
     pub(crate) kind: &'a K,

@@ -12,8 +12,6 @@ use task::task::Task;
 pub(crate) fn evicting_in_sets(task: &Task) -> [u8; 64]
     ensures { Counted result (is_evicting_in (contents task.now)) (length (contents task.now).evicting) }
 {
-    // every task keeps the limits, so there are few
-    let _limits = task.parameters();
     let blocks = task.evicting();
     count_in_sets(task, blocks, |_, _| true)
 }
@@ -47,8 +45,6 @@ fn count_in_sets<F: Fn(usize, usize) -> bool>(task: &Task, blocks: &[u32], test:
     requires callable { (i s : ℕ) → s < 64 → F.pre test i s }
     ensures { (passes : ℕ → ℕ → Bool) → ((i s : ℕ) (r : Bool) → s < 64 → F.post test i s r → r ≡ passes s i) → Counted result (λ s i. is_in (contents task.now).sets blocks.now s i && passes s i) (length blocks.now) }
 {
-    // every task keeps the limits, so that each cache set has a cell
-    let _limits = task.parameters();
     let mut counts = [0; 64];
     for (i, block) in blocks.iter().enumerate() {
         let set = task.set_of(*block);

@@ -10,7 +10,8 @@ pub struct Ages {
     ages: [u8; 64],
 }
 
-// The kind of the ages of a task's blocks: the ways, the number of blocks, and the cache set of each block.
+// The kind of the ages of a task's blocks: the ways, the number of blocks, and the cache set of each block. Conflict sets have the
+// latter two as well; each kind holds just what its meaning is made of, and a struct between them would hide that.
 #[derive(Clone, Copy)]
 pub struct AgeKind {
     ways: u8,

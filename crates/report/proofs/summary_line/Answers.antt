@@ -9,5 +9,5 @@ returns c =
     let cache = c.parameters-sets.ensures in
     let points = c.points.ensures.many in
     let blocks = c.blocks-2.ensures.value in
-    let text = simp (append_assoc, cache.sets, cache.ways, cache.reload, points, blocks, c.evicting.ensures) at c.format.ensures.ok in
+    let text = simp (append_assoc, cache.sets, cache.ways, cache.reload, points, blocks, c.evicting.ensures.value) at c.format.ensures.ok in
     search rules

@@ -1,4 +1,4 @@
-ghost use Rattle.std.specs.Prelude.{◌≡◌, ◌≤◌, true, length, IfOk, nat_eq};
+ghost use Rattle.std.specs.Prelude.{◌≡◌, ◌<◌, ◌≤◌, true, length, IfOk, nat_eq};
 ghost use Rattle.task.specs.Lists.{first_from};
 ghost use Rattle.recency.specs.Blocks.{set_of};
 ghost use Rattle.task.specs.Blocks.{ListsEachAccessOnce, access_at, access_index, distinct_blocks};
@@ -50,7 +50,8 @@ impl Task {
 
     // The blocks that an interruption may access, rising.
     pub fn evicting(&self) -> &[u32]
-        ensures { result.now ≡ (contents self.now).evicting }
+        ensures value { result.now ≡ (contents self.now).evicting }
+        ensures few { length result.now ≤ 64 }
     {
         self.draft.evicting()
     }
@@ -81,7 +82,8 @@ impl Task {
 
     // The cache set that a block belongs to.
     pub fn set_of(&self, block: u32) -> usize
-        ensures { result ≡ set_of (contents self.now).sets block }
+        ensures value { result ≡ set_of (contents self.now).sets block }
+        ensures small { result < 64 }
     {
         block as usize % self.parameters().sets as usize
     }

@@ -9,5 +9,5 @@ use Rattle.numbers.proofs.counts.evicting_in_sets.Goals as goal
 pub returns : goal.returns
 returns c =
     let t = contents c.args.task.now in
-    subst (λ (bs : List ℕ). Counted c.count_in_sets.result (is_in t.sets bs) (length bs)) c.evicting-blocks.ensures
+    subst (λ (bs : List ℕ). Counted c.count_in_sets.result (is_in t.sets bs) (length bs)) c.evicting-blocks.ensures.value
     (counted_same _ _ _ _ (λ s i. and-true _) (c.count_in_sets.ensures (λ _ _. true) (λ i s r small h. search rules)))

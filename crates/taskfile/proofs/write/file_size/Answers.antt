@@ -32,10 +32,10 @@ module _ (shown : List Point) (d : TaskDraft) (place : ℕ) (blocks : List ℕ) 
       omega arith
 
 pub overflow_add-result-2 : goal.overflow_add-result-2
-overflow_add-result-2 c = let s = small c.points-points.result.now c.args.task.now.draft c.point_place.result c.evicting.result.now c.points-points.ensures.value c.point_place.ensures c.evicting.ensures in omega arith
+overflow_add-result-2 c = let s = small c.points-points.result.now c.args.task.now.draft c.point_place.result c.evicting.result.now c.points-points.ensures.value c.point_place.ensures c.evicting.ensures.value in omega arith
 
 pub overflow_add-result-3 : goal.overflow_add-result-3
-overflow_add-result-3 c = let s = small c.points-points.result.now c.args.task.now.draft c.point_place.result c.evicting.result.now c.points-points.ensures.value c.point_place.ensures c.evicting.ensures in omega arith
+overflow_add-result-3 c = let s = small c.points-points.result.now c.args.task.now.draft c.point_place.result c.evicting.result.now c.points-points.ensures.value c.point_place.ensures c.evicting.ensures.value in omega arith
 
 pub returns : goal.returns
-returns c = added c.points-points.result.now c.args.task.now.draft c.point_place.result c.evicting.result.now c.points-points.ensures.value c.point_place.ensures c.evicting.ensures
+returns c = added c.points-points.result.now c.args.task.now.draft c.point_place.result c.evicting.result.now c.points-points.ensures.value c.point_place.ensures c.evicting.ensures.value

@@ -23,7 +23,7 @@ put_all-at-requires c = let t = contents c.args.task.now in first_fits (points_b
 pub put_last-requires : goal.put_last-requires
 put_last-requires c =
     let t = contents c.args.task.now in
-    let b = ap (λ (bs : List ℕ). length (flat_map field_bytes (last_fields bs))) c.evicting.ensures in
+    let b = ap (λ (bs : List ℕ). length (flat_map field_bytes (last_fields bs))) c.evicting.ensures.value in
     let f = second_fits (points_bytes c.points.result.now) (last t) _ c.args.out.now c.put_all-at.new.out c.put_all-at.result (parts c.points.result.now t c.points.ensures.value) c.requires c.put_all-at.ensures in
     omega arith
 
@@ -31,4 +31,4 @@ pub returns : goal.returns
 returns c =
     let t = contents c.args.task.now in
     two_parts (points_bytes c.points.result.now) (last t) _ c.args.out.now c.put_all-at.new.out c.put_last.new.out c.put_all-at.result c.put_last.result (parts c.points.result.now t c.points.ensures.value) c.requires c.put_all-at.ensures
-    (filled_as _ _ _ _ _ (ap (λ (bs : List ℕ). flat_map field_bytes (last_fields bs)) c.evicting.ensures) c.put_last.ensures)
+    (filled_as _ _ _ _ _ (ap (λ (bs : List ℕ). flat_map field_bytes (last_fields bs)) c.evicting.ensures.value) c.put_last.ensures)
