@@ -19,6 +19,9 @@ use Rattle.plru.specs.Steps.{step_few}
 abbrev pub filled : PlruSet → ℕ
 filled s = length (state_of s).blocks
 
+pub count_is : (s : PlruSet) → length (state_of s).blocks ≡ filled s
+count_is s = refl
+
 pub fit_at : (ways : ℕ) (lines : List PlruSet) (i : ℕ) (d : PlruSet) → i < length lines → all_fit ways lines ≡ true → filled (get_or lines i d) ≤ ways
 fit_at ways [] i d h f = absurd (omega arith)
 fit_at ways (s ∷ lines) zero d h f = leb-true _ _ (and_parts (nat_le (filled s) ways) (all_fit ways lines) f).0
@@ -28,6 +31,14 @@ pub fit_set : (ways : ℕ) (lines : List PlruSet) (i : ℕ) (s : PlruSet) → fi
 fit_set ways [] i s h f = f
 fit_set ways (t ∷ lines) zero s h f = and_from _ _ (le-leb _ _ h) (and_parts (nat_le (filled t) ways) (all_fit ways lines) f).1
 fit_set ways (t ∷ lines) (suc i) s h f = let p = and_parts (nat_le (filled t) ways) (all_fit ways lines) f in and_from _ _ p.0 (fit_set ways lines i s h p.1)
+
+pub fit_replicate : (ways n : ℕ) (s : PlruSet) → filled s ≤ ways → all_fit ways (replicate n s) ≡ true
+fit_replicate ways zero s h = refl
+fit_replicate ways (suc n) s h = and_from _ _ (le-leb _ _ h) (fit_replicate ways n s h)
+
+map_replicate : (n : ℕ) (s : PlruSet) → map state_of (replicate n s) ≡ replicate n (state_of s)
+map_replicate zero s = refl
+map_replicate (suc n) s = ap {B = List SetState} (λ r. state_of s ∷ r) (map_replicate n s)
 
 pub fit_all : (ways : ℕ) (lines : List PlruSet) → All (λ line. filled line ≤ ways) lines → all_fit ways lines ≡ true
 fit_all ways [] few = refl
@@ -79,6 +90,9 @@ module _ (sets ways b : ℕ) (lines : List PlruSet) (d t : PlruSet) (room : sets
   load_meets = ap (λ (s : SetState). outcome_of (has b s.blocks)) (sym (state_at sets lines room (b % sets) d within))
 
 -- a new cache
+pub empty_count : (s : PlruSet) → state_of s ≡ empty_set → filled s ≡ 0
+empty_count s e = sym (count_is s) ∙ ap (λ (k : SetState). length k.blocks) e
+
 pub states_empty : (n : ℕ) (lines : List PlruSet) → n ≤ length lines → All (λ line. state_of line ≡ empty_set) lines → states n lines ≡ replicate n empty_set
 states_empty zero lines h none = refl
 states_empty (suc n) [] h none = absurd (omega arith)

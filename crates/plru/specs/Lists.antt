@@ -1,7 +1,8 @@
 -- Laws of lists of blocks: where a block stands, and what stands in front of it. Assumes nothing.
-use Rattle.std.specs.Prelude.{◌≡◌, ℕ, zero, suc, ◌<◌, ◌≤◌, Bool, true, false, cond, List, [], ◌∷◌, ◌++◌, length, take, replicate, Some, None, ◌==◌, ◌≢◌, nat_lt, position, slice_set, refl}
+use Rattle.std.specs.Prelude.{◌≡◌, ℕ, zero, suc, ◌+◌, ◌<◌, ◌≤◌, Bool, true, false, cond, List, [], ◌∷◌, ◌++◌, length, take, drop, replicate, Some, None, ◌==◌, ◌≢◌, nat_lt, position, slice_index, slice_set, refl}
 use Rattle.std.specs.List.{position_or_len}
-use Rattle.std.proofs.Common.{sym, ◌∙◌, arith}
+use Rattle.std.proofs.Common.{sym, ap, ◌∙◌, arith, add-one, drop_of_length-le, drop-cons}
+use Rattle.std.proofs.lemmas.Bool.{eq-eqb, ne_eqb, cond-true, cond-false}
 use Rattle.std.proofs.lemmas.Bool.Decides.{nat_tests}
 use Rattle.recency.specs.Blocks.{has, distinct}
 use Rattle.recency.specs.Recency.{without, front}
@@ -26,6 +27,10 @@ index_has x (y ∷ l) h = let i = index_has x l in grind (arith, nat_tests)
 pub index_lacks : (x : ℕ) (l : List ℕ) → length l ≤ index_of x l → has x l ≡ false
 index_lacks x [] h = refl
 index_lacks x (y ∷ l) h = let i = index_lacks x l in grind (arith, nat_tests)
+
+index_most : (x : ℕ) (l : List ℕ) → index_of x l ≤ length l
+index_most x [] = omega arith
+index_most x (y ∷ l) = let i = index_most x l in grind (arith, nat_tests)
 
 index_tells : (b : ℕ) (l : List ℕ) → nat_lt (index_of b l) (length l) ≡ has b l
 index_tells b [] = refl
@@ -127,6 +132,23 @@ has_rest x y l n h = grind (arith, nat_tests)
 
 pub distinct_more : (y : ℕ) (l : List ℕ) → has y l ≡ false → distinct l ≡ true → distinct (y ∷ l) ≡ true
 distinct_more y l h d = grind (arith, nat_tests)
+
+-- a search for a block, from the place i on
+pub index_goes : (b : ℕ) (l : List ℕ) (i : ℕ) → i < length l → (slice_index l i ≢ b) → i + index_of b (drop i l) ≡ index_of b l → i + 1 + index_of b (drop (i + 1) l) ≡ index_of b l
+index_goes b l i h n e =
+    let s : index_of b (drop i l) ≡ suc (index_of b (drop (i + 1) l)) = ap (index_of b) (drop-cons l i 0 h) ∙ cond-false _ _ _ (ne_eqb b (slice_index l i) (λ k. n (sym k))) ∙ ap (λ k. suc (index_of b (drop k l))) (sym (add-one i)) in
+    omega arith
+
+pub index_stops : (b : ℕ) (l : List ℕ) (i : ℕ) → i < length l → slice_index l i ≡ b → i + index_of b (drop i l) ≡ index_of b l → i ≡ index_of b l
+index_stops b l i h n e =
+    let s : index_of b (drop i l) ≡ 0 = ap (index_of b) (drop-cons l i 0 h) ∙ cond-true _ _ _ (eq-eqb b (slice_index l i) (sym n)) in
+    omega arith
+
+pub index_done : (b : ℕ) (l : List ℕ) (i : ℕ) → length l ≤ i → i + index_of b (drop i l) ≡ index_of b l → length l ≡ index_of b l
+index_done b l i h e =
+    let s : index_of b (drop i l) ≡ 0 = ap (index_of b) (drop_of_length-le l h) in
+    let n = index_most b l in
+    omega arith
 
 -- lists paired with one element over and over
 module _ {A B : Type 0} (R : A → B → Type 0) where

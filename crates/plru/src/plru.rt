@@ -7,6 +7,7 @@ use crate::set::PlruSet;
 use crate::tree::Tree;
 
 // A tree PLRU cache. The first `sets` lines are in use; making a cache never lacks memory.
+// Not a `ListCache` under a policy: its sets have bits beside their blocks, and what it vouches for speaks of the bits.
 #[derive(Drop)]
 pub struct Plru {
     sets: u8,

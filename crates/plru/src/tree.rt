@@ -9,7 +9,7 @@ pub struct Tree {
 }
 
 // The bits of the tree above a way, and what an access of the way sets them to: each names the half without the way.
-// Each size of tree has constant rows of its own, as the subject's tables have them.
+// Each size of tree has constant rows of its own: a rule of the project (docs/DECISIONS.md, Forms).
 // Bit p of a set is the one of place p: place 1 is the root, place p has the halves 2p and 2p + 1.
 #[derive(Clone, Copy)]
 struct PathBits {
