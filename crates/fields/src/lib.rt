@@ -7,7 +7,7 @@ ghost use Rattle.std.specs.Prelude.{◌≡◌};
 ghost use Rattle.fields.specs.Layout.{field_at};
 ghost use Rattle.fields.specs.Said.{number, said};
 
-use tag::Tag;
+pub use tag::Tag;
 
 // A field of a task file. Its body is a part of the file.
 #[derive(Clone, Copy, Debug)]

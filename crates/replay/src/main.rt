@@ -182,9 +182,11 @@ fn print_asked(rt: &HostRuntime, asked: &[RunLine], played: &[Played]) -> anyhow
     let mut text = String::new(heap);
     for line in asked {
         match *line {
+            // never comes, since `take` passes it over; without it the list would want an enum of its own
             RunLine::Nothing => {}
             RunLine::Read => text.push_str(counts_line(heap, counts)?.as_str())?,
             RunLine::Call(call) => {
+                // both lists are walked together, since answers belong to calls only
                 let said = answers.next().context("a call without an answer")?;
                 text.push_str(answer_line(heap, call, said.answer)?.as_str())?;
                 counts = said.counts;
@@ -258,8 +260,8 @@ fn main(rt: HostRuntime) -> anyhow::Result<()> {
         number: 1,
     };
     match read_script(&rt, &mut script) {
-        Ok(()) => run(&rt, &script, true),
-        Err(Stop::NotUnderstood) => run(&rt, &script, false),
+        Ok(()) => run(&rt, &script, Ok(())),
+        Err(Stop::NotUnderstood) => run(&rt, &script, Err(NotUnderstood)),
         Err(Stop::Refused(fault)) => {
             rt.print(refusal_line(heap, fault)?)?;
             Err(anyhow!("refused"))
@@ -268,11 +270,11 @@ fn main(rt: HostRuntime) -> anyhow::Result<()> {
     }
 }
 
-// Replays what was read, and says what ends it.
-fn run(rt: &HostRuntime, script: &Script, whole: bool) -> anyhow::Result<()> {
+// Replays what was read, and says what ends it; `end` is how the reading ended.
+fn run(rt: &HostRuntime, script: &Script, end: Result<(), NotUnderstood>) -> anyhow::Result<()> {
     if let (Some(task), Some(line)) = (&script.task, script.cache) {
         let counts = play_on(rt, task, line, &script.asked)?;
-        if whole {
+        if end.is_ok() {
             rt.print(counts_line(rt.alloc(), counts)?)?;
             return Ok(());
         }

@@ -10,6 +10,7 @@ ghost use Rattle.taskfile.specs.Answers.{Filled, Written};
 
 use crate::fault::TooShort;
 use crate::sizes::{HEAD_SIZE, point_place};
+use fields::Tag;
 use task::parameters::CacheParameters;
 use task::point::Point;
 use task::task::Task;
@@ -49,7 +50,7 @@ fn put_last(blocks: &[u32], out: &mut [u8]) -> usize
     ensures { Filled (flat_map field_bytes (last_fields blocks.now)) out.old out.new result }
 {
     let at = put_all(blocks, out);
-    at + put(&[4, 0, 0], &mut out[at..])
+    at + put(&[Tag::End as u8, 0, 0], &mut out[at..])
 }
 
 fn put_header(cache: CacheParameters, out: &mut [u8]) -> usize
@@ -57,7 +58,10 @@ fn put_header(cache: CacheParameters, out: &mut [u8]) -> usize
     ensures { Filled (field_bytes (header_field (cache.sets ∷ (cache.ways ∷ four_bytes cache.reload)))) out.old out.new result }
 {
     let [a, b, c, d] = cache.reload.to_be_bytes();
-    put(&[1, 0, 6, cache.sets, cache.ways, a, b, c, d], out)
+    put(
+        &[Tag::Header as u8, 0, 6, cache.sets, cache.ways, a, b, c, d],
+        out,
+    )
 }
 
 // What stands in a file as a field.
@@ -97,7 +101,7 @@ impl AsField for u32 {
 
     fn put_field(&self, out: &mut [u8]) -> usize {
         let [a, b, c, d] = self.to_be_bytes();
-        put(&[3, 0, 4, a, b, c, d], out)
+        put(&[Tag::Evicting as u8, 0, 4, a, b, c, d], out)
     }
 }
 
@@ -108,10 +112,10 @@ fn put_access(access: Option<u32>, successors: u8, out: &mut [u8]) -> usize
     ensures { Filled (2 ∷ (0 ∷ ((length (access_bytes access) + successors) ∷ access_bytes access))) out.old out.new result }
 {
     match access {
-        None => put(&[2, 0, 1 + successors, 0], out),
+        None => put(&[Tag::Point as u8, 0, 1 + successors, 0], out),
         Some(block) => {
             let [a, b, c, d] = block.to_be_bytes();
-            put(&[2, 0, 5 + successors, 1, a, b, c, d], out)
+            put(&[Tag::Point as u8, 0, 5 + successors, 1, a, b, c, d], out)
         }
     }
 }

@@ -1,6 +1,4 @@
-use Rattle.std.proofs.Common.{length, sym, ap, ◌∙◌, append_assoc, rules}
-use Rattle.std.proofs.lemmas.List.{length-map}
-use Rattle.task.specs.Meaning.{point_contents}
+use Rattle.std.proofs.Common.{append_assoc, rules}
 use Rattle.report.proofs.summary_line.Goals as goal
 
 -- the bytes of the format, with each number as the task's contents have it, and its pieces in a row
