@@ -7,7 +7,7 @@ use numbers::PointNumbers;
 use tables::Tables;
 use task::task::Task;
 
-// Writes the record of each point to its place.
+// Writes the record of each point to its place. That there is a row for each stands in a clause, since tables do not know the task.
 pub(crate) fn fill(task: &Task, tables: &Tables<'_>, sheet: &mut [PointNumbers])
     requires room { length sheet.old ≡ length (contents task.now).points }
     requires settled { length (contents task.now).points ≤ shortest (rows_of tables.now) }

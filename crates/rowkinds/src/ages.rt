@@ -11,7 +11,8 @@ pub struct Ages {
 }
 
 // The kind of the ages of a task's blocks: the ways, the number of blocks, and the cache set of each block. Conflict sets have the
-// latter two as well; each kind holds just what its meaning is made of, and a struct between them would hide that.
+// latter two as well; each kind holds just what its meaning is made of, and a struct between them would hide that. The sets
+// are an array and no list, since a kind is `Copy` and its contract pins all 64.
 #[derive(Clone, Copy)]
 pub struct AgeKind {
     ways: u8,

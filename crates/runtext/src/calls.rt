@@ -44,6 +44,7 @@ fn is_blank(line: &[u8]) -> bool
     line.iter().all(|c| *c == b' ')
 }
 
+// No `FromStr`, which would stand in the ledger's crate and tell it the text of one program.
 fn call_from(line: &str) -> Option<Call>
     ensures { result ≡ call_of line.now }
 {

@@ -35,7 +35,7 @@ fn file_size(task: &Task) -> usize
     point_place(points, points.len()) + (HEAD_SIZE + 4) * task.evicting().len() + HEAD_SIZE
 }
 
-// The fields after the header.
+// The fields after the header. Each function of the writer says what it fills of other bytes, so that no type says it once.
 fn put_fields(task: &Task, out: &mut [u8]) -> usize
     requires { length (flat_map field_bytes (fields_after_header (contents task.now))) ≤ length out.old }
     ensures { Filled (flat_map field_bytes (fields_after_header (contents task.now))) out.old out.new result }
