@@ -1,7 +1,7 @@
 ghost use Rattle.std.specs.Prelude.{◌≡◌, ◌<◌, None, slice_index_or};
 ghost use Rattle.cells.specs.Cells.{both, each};
 ghost use Rattle.conflicts.specs.Conflicts.{conflict_after, conflicts_meaning, extended, union_of};
-ghost use Rattle.conflicts.specs.Laws.{conflicts_equality, conflicts_laws};
+ghost use Rattle.conflicts.specs.Laws.{conflicts_laws};
 
 use crate::{ConflictKind, Conflicts};
 use blocksets::BlockSet;
@@ -17,8 +17,6 @@ impl RowKind for ConflictKind {
     ghost meaning = { λ k. conflicts_meaning k.blocks k.sets };
 
     ghost lawful = { λ k. conflicts_laws k.blocks k.sets };
-
-    ghost equality = { conflicts_equality };
 
     fn start(&self) -> Conflicts {
         Conflicts {
@@ -44,6 +42,10 @@ impl RowKind for ConflictKind {
 
     fn height(&self) -> u32 {
         self.blocks as u32 * self.blocks as u32
+    }
+
+    fn same(&self, a: &Conflicts, b: &Conflicts) -> bool {
+        a == b
     }
 }
 

@@ -13,7 +13,7 @@ ghost use Rattle.fixpoint.specs.Kinds.{Laws, Meaning};
 
 // A kind of row, by what it means and the laws that it shows. Its methods take any row and note.
 pub trait RowKind {
-    type Row: Copy + Eq;
+    type Row: Copy;
 
     type Note;
 
@@ -31,8 +31,9 @@ pub trait RowKind {
     fn height(&self) -> u32
         ensures { result ≡ (meaning self.now).height };
 
-    ghost lawful: { (k : Self) → Laws (meaning k) };
+    // A call and no `==`, so that rows of any type will do.
+    fn same(&self, a: &Self::Row, b: &Self::Row) -> bool
+        ensures { Decides result (a.now ≡ b.now) };
 
-    // rows that `==` calls equal are the same
-    ghost equality: { (a b : Self.Row) → Decides (Self.Row.PartialEq.eq a b) (a ≡ b) };
+    ghost lawful: { (k : Self) → Laws (meaning k) };
 }

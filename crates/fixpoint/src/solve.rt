@@ -63,8 +63,9 @@ impl<'a, K: RowKind> Solver<'a, K> {
         for k in 0..n {
             let p = self.direction.visited_at(n, k);
             let new = self.gather(rows, p);
-            changed |= rows[p] != new;
+            let kept = self.kind.same(&rows[p], &new);
             rows[p] = new;
+            changed |= !kept;
         }
         changed
     }

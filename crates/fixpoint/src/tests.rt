@@ -27,8 +27,6 @@ impl RowKind for Counter {
 
     ghost lawful = { Prim.search rules };
 
-    ghost equality = { Prim.search rules };
-
     fn start(&self) -> u8 {
         0
     }
@@ -43,6 +41,10 @@ impl RowKind for Counter {
 
     fn height(&self) -> u32 {
         self.cap as u32
+    }
+
+    fn same(&self, a: &u8, b: &u8) -> bool {
+        a == b
     }
 }
 

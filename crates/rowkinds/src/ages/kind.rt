@@ -1,7 +1,7 @@
 ghost use Rattle.std.specs.Prelude.{◌≡◌, ◌<◌, min, slice_index};
 ghost use Rattle.cells.specs.Cells.{both, each};
 ghost use Rattle.rowkinds.specs.Ages.{age_after, ages_meaning, grown};
-ghost use Rattle.rowkinds.specs.Laws.{ages_equality, ages_laws};
+ghost use Rattle.rowkinds.specs.Laws.{ages_laws};
 
 use crate::ages::{AgeKind, Ages};
 use fixpoint::RowKind;
@@ -16,8 +16,6 @@ impl RowKind for AgeKind {
     ghost meaning = { λ k. ages_meaning k.ways k.blocks k.sets };
 
     ghost lawful = { λ k. ages_laws k.ways k.blocks k.sets };
-
-    ghost equality = { ages_equality };
 
     fn start(&self) -> Ages {
         Ages {
@@ -42,6 +40,10 @@ impl RowKind for AgeKind {
 
     fn height(&self) -> u32 {
         self.blocks as u32 * self.ways as u32
+    }
+
+    fn same(&self, a: &Ages, b: &Ages) -> bool {
+        a == b
     }
 }
 

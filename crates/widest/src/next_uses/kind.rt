@@ -1,7 +1,7 @@
 ghost use Rattle.std.specs.Prelude.{◌≡◌};
 ghost use Rattle.cells.specs.Cells.{both};
 ghost use Rattle.widest.specs.NextUses.{larger, next_uses_meaning};
-ghost use Rattle.widest.specs.Laws.{next_uses_equality, next_uses_laws};
+ghost use Rattle.widest.specs.Laws.{next_uses_laws};
 
 use crate::next_uses::{NextUse, NextUseKind, NextUses};
 use fixpoint::RowKind;
@@ -16,8 +16,6 @@ impl RowKind for NextUseKind {
     ghost meaning = { λ k. next_uses_meaning k.blocks };
 
     ghost lawful = { λ k. next_uses_laws k.blocks };
-
-    ghost equality = { next_uses_equality };
 
     fn start(&self) -> NextUses {
         NextUses { counts: [None; 64] }
@@ -42,6 +40,10 @@ impl RowKind for NextUseKind {
 
     fn height(&self) -> u32 {
         self.blocks as u32 * self.blocks as u32
+    }
+
+    fn same(&self, a: &NextUses, b: &NextUses) -> bool {
+        a == b
     }
 }
 
