@@ -1,7 +1,7 @@
 use Rattle.std.proofs.Common.{arith, rules}
 use Rattle.cache.proofs.Sizes.{made_within}
 use Rattle.plru.specs.Tree.{is_tree}
-use Rattle.plru.specs.Lines.{fit_empty, new_made, new_refused, states_empty}
+use Rattle.plru.specs.Lines.{fit_empty, new_made_unrefused, new_refused, states_empty}
 use Rattle.plru.proofs.plru.Plru.new.Goals as goal
 
 pub returns-in_err-check_size : goal.returns-in_err-check_size
@@ -21,4 +21,4 @@ returns c =
     let made = c.in_ok-check_size.ensures is_tree (λ fits post. search rules) in
     let few = (made_within is_tree c.args.sets c.args.ways made).1 in
     let room = c.empty_lines.ensures.room in
-    new_made c.args.sets c.args.ways _ made (states_empty c.args.sets _ (omega arith) c.empty_lines.ensures.empty)
+    new_made_unrefused c.args.sets c.args.ways _ made (states_empty c.args.sets _ (omega arith) c.empty_lines.ensures.empty)
