@@ -2,4 +2,4 @@ pub mod Sizes
 mod Tables
 mod Runs
 mod Examples
-mod Places
+mod Shift

@@ -1,9 +1,7 @@
 -- What a FIFO cache holds, and what it vouches for.
-use Rattle.std.specs.Prelude.{◌≡◌, ℕ, true, List}
-use Rattle.recency.specs.Rows.{is_row}
-use Rattle.recency.specs.Paired.{Paired}
+use Rattle.std.specs.Prelude.{ℕ, List}
 use Rattle.cache.specs.ListCaches.{rows_of}
-use Rattle.cache.specs.Policies.{Within}
+use Rattle.cache.specs.Policies.{FifoVouchesFor}
 use Rattle.cache.specs.declared.list_cache.ListCache.{ListCache}
 use Rattle.cache.specs.declared.policy.Policy.{Ghosts}
 
@@ -15,4 +13,4 @@ module _ {P : Type 0} {g : Ghosts P} where
   -- each list of the row has at most one block, and the cache holds it. A FIFO cache is sure of no more, since a hit does not
   -- put off the eviction of a block
   abbrev pub FifoVouches : ListCache P g → List (List ℕ) → Type 0
-  FifoVouches c row = (is_row c.sets 1 row ≡ true) × Paired Within row (fifo_row c)
+  FifoVouches c row = FifoVouchesFor c.sets c.ways (fifo_row c) row

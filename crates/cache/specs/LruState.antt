@@ -1,8 +1,7 @@
 -- What an LRU cache holds, and what it vouches for.
 use Rattle.std.specs.Prelude.{ℕ, List}
-use Rattle.recency.specs.Paired.{Paired}
-use Rattle.recency.specs.Prefixes.{Prefix}
 use Rattle.cache.specs.ListCaches.{rows_of}
+use Rattle.cache.specs.Policies.{LruVouchesFor}
 use Rattle.cache.specs.declared.list_cache.ListCache.{ListCache}
 use Rattle.cache.specs.declared.policy.Policy.{Ghosts}
 
@@ -13,4 +12,4 @@ module _ {P : Type 0} {g : Ghosts P} where
 
   -- each list of the row is a front part of the cache's own list of that set
   abbrev pub LruVouches : ListCache P g → List (List ℕ) → Type 0
-  LruVouches c row = Paired Prefix row (lru_row c)
+  LruVouches c row = LruVouchesFor c.sets c.ways (lru_row c) row

@@ -3,7 +3,7 @@ mod methods;
 use arrayvec::ArrayVec;
 
 // The blocks of one cache set, newest first.
-#[derive(Drop)]
+#[derive(Clone, Drop)]
 pub struct BlockList {
     blocks: ArrayVec<u32, 8>,
 }

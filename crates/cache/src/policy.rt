@@ -2,7 +2,7 @@ ghost use Rattle.std.specs.Prelude.{◌≡◌, ℕ, ◌≤◌, List};
 ghost use Rattle.recency.specs.Blocks.{has};
 ghost use Rattle.cache.specs.BlockLists.{FitsWays, blocks_of};
 ghost use Rattle.cache.specs.Outcomes.{outcome_of};
-ghost use Rattle.cache.specs.Policies.{PolicyLaws};
+ghost use Rattle.cache.specs.Policies.{PolicyLaws, row_after};
 
 use crate::block_list::BlockList;
 use crate::outcome::Outcome;
@@ -11,6 +11,9 @@ use crate::outcome::Outcome;
 pub trait Policy {
     // the ways, the block, the list
     ghost step: { ℕ → ℕ → List ℕ → List ℕ };
+
+    // the same of the cache's row: the sets, the ways, the block, the row
+    ghost row_step: { ℕ → ℕ → ℕ → List (List ℕ) → List (List ℕ) };
 
     // lists of so many blocks are vouched for
     ghost life: { ℕ → ℕ };
@@ -26,6 +29,8 @@ pub trait Policy {
         requires { FitsWays list.old ways }
         ensures hit { result ≡ outcome_of (has block (blocks_of list.old)) }
         ensures moved { blocks_of list.new ≡ step ways block (blocks_of list.old) };
+
+    ghost row_law: { (sets w b : ℕ) (row : List (List ℕ)) → row_step sets w b row ≡ row_after step sets w b row };
 
     ghost laws: { PolicyLaws step life vouches };
 }

@@ -1,13 +1,14 @@
 -- The lines of the code and the sets that they stand for. Assumes nothing.
-use Rattle.std.specs.Prelude.{◌≡◌, ℕ, zero, suc, ◌%◌, ◌<◌, ◌≤◌, true, List, [], ◌∷◌, map, length, get_or, take, set, replicate, All, Some, None, Ok, Err, Option, Result, nat_le, slice_index_or, slice_set, refl}
+use Rattle.std.specs.Prelude.{◌≡◌, ℕ, zero, suc, ◌%◌, ◌<◌, ◌≤◌, true, ◌&&◌, List, [], ◌∷◌, map, length, get_or, take, set, replicate, All, Some, None, Ok, Err, Option, Result, nat_le, slice_index_or, slice_set, refl}
 use Rattle.std.proofs.Common.{sym, ap, ◌∙◌, arith, length-take}
 use Rattle.std.proofs.Math.Seq.{take-set-lt}
 use Rattle.std.proofs.lemmas.List.{map-set, get_or-take, get_or-map, length-map}
-use Rattle.std.proofs.lemmas.Bool.{and_parts, and_from, leb-true, le-leb}
+use Rattle.std.proofs.lemmas.Bool.{and_parts, and_from, leb-true, le-leb, cond-true}
 use Rattle.plru.specs.declared.set.PlruSet.{PlruSet}
 use Rattle.cache.specs.Outcomes.{outcome_of}
 use Rattle.cache.specs.Sizes.{refusal}
 use Rattle.cache.specs.declared.fault.CacheFault.{CacheFault}
+use Rattle.cache.specs.declared.fault.CacheFault.TheVariants as faults
 use Rattle.recency.specs.Blocks.{has}
 use Rattle.plru.specs.Tree.{is_tree}
 use Rattle.plru.specs.Sets.{SetState, empty_set, plru_step}
@@ -100,10 +101,17 @@ states_empty (suc n) (s ∷ lines) h none =
     let first : state_of s ≡ empty_set = none 0 s (omega arith) in
     rw (first, states_empty n lines (omega arith) (λ k d lt. none (suc k) d (omega arith))) refl
 
-pub new_made : (sets ways : ℕ) (ss : List SetState) → refusal is_tree sets ways ≡ None → ss ≡ replicate sets empty_set → ◌≡◌ {A = Result CacheState CacheFault} (Ok (record { sets = sets; ways = ways; states = ss })) (new_cache sets ways)
-new_made sets ways ss fine e =
+pub new_made_unrefused : (sets ways : ℕ) (ss : List SetState) → refusal is_tree sets ways ≡ None → ss ≡ replicate sets empty_set → ◌≡◌ {A = Result CacheState CacheFault} (Ok (record { sets = sets; ways = ways; states = ss })) (new_cache sets ways)
+new_made_unrefused sets ways ss fine e =
     ap {B = Result CacheState CacheFault} (λ v. Ok (record { sets = sets; ways = ways; states = v })) e
     ∙ sym (ap (λ (o : Option CacheFault). unless_refused o (record { sets = sets; ways = ways; states = replicate sets empty_set })) fine)
+
+-- the same of a size in its bounds
+pub new_made : (sets ways : ℕ) (ss : List SetState) → 1 ≤ sets → sets ≤ 64 → is_tree ways ≡ true → ss ≡ replicate sets empty_set → ◌≡◌ {A = Result CacheState CacheFault} (Ok (record { sets = sets; ways = ways; states = ss })) (new_cache sets ways)
+new_made sets ways ss h k t =
+    let fine : refusal is_tree sets ways ≡ None =
+    cond-true (nat_le 1 sets && nat_le sets 64) _ (Some faults.Sets) (and_from _ _ (le-leb 1 sets h) (le-leb sets 64 k)) ∙ cond-true (is_tree ways) None (Some faults.Ways) t in
+    new_made_unrefused sets ways ss fine
 
 pub new_refused : (sets ways : ℕ) (fault : CacheFault) → refusal is_tree sets ways ≡ Some fault → ◌≡◌ {A = Result CacheState CacheFault} (Err fault) (new_cache sets ways)
 new_refused sets ways fault e = sym (ap (λ (o : Option CacheFault). unless_refused o (record { sets = sets; ways = ways; states = replicate sets empty_set })) e)

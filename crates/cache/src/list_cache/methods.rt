@@ -35,6 +35,7 @@ impl<P: Policy> ListCache<P> {
     pub fn load(&mut self, block: u32) -> Outcome
         ensures hit { result ≡ outcome_of (has block (list_of self.old.sets block (rows_of self.old))) }
         ensures moved { rows_of self.new ≡ row_after P.step self.old.sets self.old.ways block (rows_of self.old) }
+        ensures row { rows_of self.new ≡ P.row_step self.old.sets self.old.ways block (rows_of self.old) }
         ensures sets { self.new.sets ≡ self.old.sets }
         ensures ways { self.new.ways ≡ self.old.ways }
     {

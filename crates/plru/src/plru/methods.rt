@@ -1,6 +1,7 @@
 ghost use Rattle.std.specs.Prelude.{◌≡◌, length, All, slice_index_or};
 ghost use Rattle.std.specs.Result.{result_map_both};
 ghost use Rattle.cache.specs.Outcomes.{outcome_of};
+ghost use Rattle.cache.specs.Sizes.{legal_sets};
 ghost use Rattle.plru.specs.Caches.{Guarded, cache_step, holds_block, life_of, new_cache};
 ghost use Rattle.plru.specs.Contents.{contents};
 ghost use Rattle.plru.specs.Meaning.{state_of};
@@ -21,11 +22,19 @@ use std::array;
 impl Plru {
     pub const MAX_SETS: u8 = 64;
 
+    // Whether a cache can have so many sets.
+    pub fn can_have_sets(sets: u8) -> bool
+        ensures { result ≡ legal_sets sets }
+    {
+        (1..=Self::MAX_SETS).contains(&sets)
+    }
+
     // An empty cache, all of whose bits are 0, or why there is none.
     pub fn new(sets: u8, ways: u8) -> Result<Plru, CacheFault>
         ensures { result_map_both contents (λ e. e) result ≡ new_cache sets ways }
     {
         check_size(sets, ways, |ways| matches!(ways, 2 | 4 | 8))?;
+        prove!(Self::can_have_sets(sets));
         Ok(Plru {
             sets,
             tree: Tree { ways },

@@ -1,19 +1,37 @@
-use Rattle.std.proofs.Common.{ℕ, List, ◌∷◌, ap, sym, ◌∙◌}
-use Rattle.std.specs.Option.{is_some}
-use Rattle.cache.proofs.Places.{has_place, moved_there, brought_in}
+use Rattle.std.proofs.Common.{◌≡◌, List, [], ◌∷◌, ◌++◌, length, sym, ap, ◌∙◌, arith}
 use Rattle.cache.specs.BlockLists.{blocks_of}
 use Rattle.cache.specs.Outcomes.{outcome_of}
+use Rattle.cache.proofs.Shift.{written_back, moved_up, brought_in, pushed_out}
 use Rattle.cache.proofs.block_list.BlockList.touch.Goals as goal
-use Rattle.cache.proofs.block_list.BlockList.touch.Goals.{in-Some, in-None}
 
-pub returns-clause-hit : goal.returns-clause-hit
-returns-clause-hit c = c.from-outcome.ensures ∙ ap outcome_of (c.is_some.ensures ∙ ap is_some c.place-found.ensures ∙ has_place c.args.block _)
+pub returns-in-None : goal.returns-in-None
+returns-in-None c =
+    let whole = written_back (blocks_of c.args.self.now) c.move_up.new.blocks (c.move_up.auto.blocks ∙ ap length c.as_mut_slice.ensures.value) in
+    let e = rw c.as_mut_slice.ensures.value at c.in-None.ensures in
+    record {
+      hit = sym (ap outcome_of e.0);
+      moved = whole ∙ e.1 ∙ moved_up c.args.ways c.args.block (blocks_of c.args.self.now) e.0;
+    }
 
-pub returns-clause-moved : goal.returns-clause-moved
-returns-clause-moved c =
-    let b = c.args.block in
-    let l = blocks_of c.args.self.now in
-    c.insert.ensures.items ∙ elim c.match-found.branch [
-      | in-Some w ↦ ap {B = List ℕ} (λ m. b ∷ blocks_of m) w.self-is ∙ ap {B = List ℕ} (λ m. b ∷ m) w.remove.ensures.items ∙ moved_there b c.args.ways _ l (sym c.place-found.ensures ∙ w.in-Some.is)
-      | in-None w ↦ ap {B = List ℕ} (λ m. b ∷ blocks_of m) w.self-is ∙ ap {B = List ℕ} (λ m. b ∷ m) w.truncate.ensures.items ∙ brought_in b c.args.ways l c.requires.some (sym c.place-found.ensures ∙ w.in-None.is)
-    ]
+pub returns-then-len-ways : goal.returns-then-len-ways
+returns-then-len-ways c =
+    let whole = written_back (blocks_of c.args.self.now) c.move_up.new.blocks (c.move_up.auto.blocks ∙ ap length c.as_mut_slice.ensures.value) in
+    let e = rw c.as_mut_slice.ensures.value at c.in-Some.ensures in
+    let size : length c.move_up.new.blocks ≡ c.len.result = sym (c.len.ensures.value ∙ ap length whole) in
+    let room = c.if-len-ways.true in
+    record {
+      hit = sym (ap outcome_of e.0);
+      moved = c.push.ensures.items ∙ ap {B = List _} (λ l. l ++ c.in-Some.last ∷ []) whole
+          ∙ brought_in c.args.ways c.args.block c.in-Some.last (blocks_of c.args.self.now) c.move_up.new.blocks e.0 e.1 c.requires.fits (omega arith);
+    }
+
+pub returns-else-len-ways : goal.returns-else-len-ways
+returns-else-len-ways c =
+    let whole = written_back (blocks_of c.args.self.now) c.move_up.new.blocks (c.move_up.auto.blocks ∙ ap length c.as_mut_slice.ensures.value) in
+    let e = rw c.as_mut_slice.ensures.value at c.in-Some.ensures in
+    let size : length c.move_up.new.blocks ≡ c.len.result = sym (c.len.ensures.value ∙ ap length whole) in
+    let full = c.if-len-ways.false in
+    record {
+      hit = sym (ap outcome_of e.0);
+      moved = whole ∙ pushed_out c.args.ways c.args.block c.in-Some.last (blocks_of c.args.self.now) c.move_up.new.blocks e.0 e.1 c.requires.fits (omega arith);
+    }

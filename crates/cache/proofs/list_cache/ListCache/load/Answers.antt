@@ -1,4 +1,4 @@
-use Rattle.std.proofs.Common.{◌≤◌, length, ap, ◌∙◌, arith, length-set}
+use Rattle.std.proofs.Common.{◌≤◌, length, ap, sym, ◌∙◌, arith, length-set}
 use Rattle.recency.specs.Rows.{is_row}
 use Rattle.cache.specs.BlockLists.{row_of}
 use Rattle.cache.specs.Policies.{step_keeps_row}
@@ -25,3 +25,10 @@ returns-clause-moved g c =
     let s = c.args.self.now in
     let room : s.sets ≤ length s.lists = omega arith in
     row_set s.sets s.ways c.args.block s.lists _ s.some_sets room (g.P.Policy.step s.ways c.args.block) c.access.new.list c.access.ensures.moved
+
+pub returns-clause-row : goal.returns-clause-row
+returns-clause-row g c =
+    let s = c.args.self.now in
+    let room : s.sets ≤ length s.lists = omega arith in
+    row_set s.sets s.ways c.args.block s.lists _ s.some_sets room (g.P.Policy.step s.ways c.args.block) c.access.new.list c.access.ensures.moved
+    ∙ sym (g.met.P.Policy.row_law s.sets s.ways c.args.block (row_of s.sets s.lists))
