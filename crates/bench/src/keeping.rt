@@ -34,6 +34,7 @@ fn settled_numbers(task: &Task, tables: &mut Tables<'_>) -> [u16; 128]
     requires { length (contents task.now).points ≤ shortest (rows_of tables.old) }
     ensures room { length result ≡ 128 }
     ensures numbers { (p : ℕ) → p < length (contents task.now).points → slice_index result p ≡ resilient_at (contents task.now) p }
+    ensures past { (p : ℕ) → length (contents task.now).points ≤ p → slice_index result p ≡ 0 }
     ensures settled { (rounds : Rounds) × AllSettled (contents task.now) (rows_of tables.old) (rows_of tables.new) rounds }
     ensures lent { SameMemory tables.old tables.new }
 {
@@ -41,19 +42,25 @@ fn settled_numbers(task: &Task, tables: &mut Tables<'_>) -> [u16; 128]
     resilient_numbers(task, tables)
 }
 
-// The resilient number that the tables give each point. Clauses see an array as a list, so that each says its length.
+// The resilient number that the tables give each point. Past the last point stands 0, whatever rows the tables have there.
+// Clauses see an array as a list, so that each says its length.
 fn resilient_numbers(task: &Task, tables: &Tables<'_>) -> [u16; 128]
     requires { length (contents task.now).points ≤ shortest (rows_of tables.now) }
     ensures room { length result ≡ 128 }
     ensures numbers { (p : ℕ) → p < length (contents task.now).points → slice_index result p ≡ (numbers_at (contents task.now) (rows_of tables.now) p).resilient }
+    ensures past { (p : ℕ) → length (contents task.now).points ≤ p → slice_index result p ≡ 0 }
 {
     array::from_fn(|p| resilient_number(task, tables, p))
 }
 
-// The resilient number that the tables give a point, and 0 past their last row.
+// The resilient number that the tables give a point, and 0 past the last point, where nothing is computed, or past their
+// last row.
 fn resilient_number(task: &Task, tables: &Tables<'_>, p: usize) -> u16
-    ensures { result ≡ (if nat_lt p (shortest (rows_of tables.now)) then (numbers_at (contents task.now) (rows_of tables.now) p).resilient else 0) }
+    ensures { result ≡ (if nat_lt p (length (contents task.now).points) then (if nat_lt p (shortest (rows_of tables.now)) then (numbers_at (contents task.now) (rows_of tables.now) p).resilient else 0) else 0) }
 {
+    if p >= task.points().len() {
+        return 0;
+    }
     tables
         .numbers_at(task, p)
         .map_or(0, |numbers| numbers.resilient)

@@ -4,22 +4,32 @@
 
 use anyhow::{Context, anyhow};
 use report::refusal_line;
-use std::alloc::Global;
+use std::alloc::{AllocError, Global};
 use std::io::{BufRead, BufReader};
 use taskfile::{read_task, write_task};
 
 // Longer than any task file that is accepted.
 const MAX_FILE: usize = 2048;
 
-// The bytes of pairs of hexadecimal digits in lower case; `-` stands for none.
+// The bytes of pairs of hexadecimal digits in lower case; `-` stands for none. What is refused is the first pair that is
+// wrong, so the pairs are looked at first, and the decoder can only lack memory.
 fn bytes_from(heap: Global, digits: &str) -> anyhow::Result<Vec<u8>> {
     if digits == "-" {
         return Ok(Vec::new(heap));
     }
-    if digits.as_bytes().iter().any(u8::is_ascii_uppercase) {
-        return Err(anyhow!("no hexadecimal digit"));
+    for pair in digits.as_bytes().chunks(2) {
+        let [high, low] = pair else {
+            return Err(anyhow!("odd number of digits"));
+        };
+        if !is_digit(*high) || !is_digit(*low) {
+            return Err(anyhow!("no hexadecimal digit"));
+        }
     }
-    Ok(hex::decode(heap, digits)?)
+    Ok(hex::decode(heap, digits).map_err(|_| AllocError)?)
+}
+
+fn is_digit(byte: u8) -> bool {
+    matches!(byte, b'0'..=b'9' | b'a'..=b'f')
 }
 
 fn answer(heap: Global, file: &[u8]) -> anyhow::Result<String> {

@@ -31,7 +31,8 @@ pub(crate) fn use_notes(
     array::from_fn(|p| use_note_at(rows, notes, p))
 }
 
-// The note of a point that has a row.
+// The note of a point that has a row. Its block comes first, so that no row is copied where there is none, as past the last
+// point.
 fn use_note_at(
     rows: &Table<'_, Conflicts>,
     notes: &[Option<usize>; 128],
@@ -40,7 +41,8 @@ fn use_note_at(
     requires { p < 128 }
     ensures { result ≡ option_and_then (λ row. use_note row (slice_index_or notes.now p None)) (slice_get rows.now.rows.now p) }
 {
-    use_note(&rows.row(p)?, notes[p])
+    let block = notes[p]?;
+    use_note(&rows.row(p)?, Some(block))
 }
 
 // The block of an access, with how many blocks conflict with it before the access.

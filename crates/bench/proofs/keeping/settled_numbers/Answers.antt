@@ -38,6 +38,7 @@ returns c =
       numbers = λ p h.
           c.resilient_numbers.ensures.numbers p h
           ∙ ap (λ x. x.resilient) (same_numbers t after (settled_rows t) (length t.points) (ages_value t few before after c.unwrap.result all) (reuses_value t few before after c.unwrap.result all) (conflicts_value t few before after c.unwrap.result all) (widest_value t few before after c.unwrap.result all) p h);
+      past = c.resilient_numbers.ensures.past;
       settled = (c.unwrap.result, all);
       lent = c.settle.ensures.lent;
     }
