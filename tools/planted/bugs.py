@@ -23,8 +23,8 @@ BUGS = [
     ("task", "src/draft/methods.rt", "if blocks.contains(&block) {\n        return Ok(());\n    }\n", "", "a block noted at each access"),
     ("task", "src/task/methods.rt", "block as usize % self.parameters().sets as usize", "block as usize % self.parameters().ways as usize", "the set of a block by ways"),
     # caches
-    ("cache", "src/block_list/methods.rt", "self.blocks.insert(0, block);", "self.blocks.insert(0, block);\n        for i in 1..self.blocks.len() {\n            self.blocks[i] = block;\n        }", "the first block copied down the list"),
-    ("cache", "src/block_list/methods.rt", "self.blocks.insert(0, block);", "self.blocks.insert(0, block);\n        self.blocks.truncate(ways as usize - 1);", "one way never filled"),
+    ("cache", "src/block_list/methods.rt", "        carry = next;\n", "", "the first block copied down the list"),
+    ("cache", "src/block_list/methods.rt", "if self.blocks.len() < ways as usize {", "if self.blocks.len() + 1 < ways as usize {", "one way never filled"),
     ("cache", "src/block_list/methods.rt", "if self.contains(block) {\n            return Outcome::Hit;\n        }\n", "", "FIFO reorders at a hit"),
     ("cache", "src/lru.rt", "list.touch(ways, block)", "Outcome::from(list.contains(block))", "an access that is forgotten"),
     ("cache", "src/list_cache/methods.rt", "(1..=8).contains(&ways)", "(1..8).contains(&ways)", "8 ways refused"),
@@ -35,7 +35,7 @@ BUGS = [
     ("plru", "src/set/methods.rt", "if way < tree.ways {", "if way + 1 < tree.ways {", "the last way filled by the bits"),
     # solver and rows
     ("fixpoint", "src/solve.rt", "let mut all = self.kind.start();", "let mut all = rows[p];", "the merge begins from the old row"),
-    ("fixpoint", "src/solve.rt", "changed |= rows[p] != new;", "changed = rows[p] != new;", "only the last point of a round counts as changed"),
+    ("fixpoint", "src/solve.rt", "changed |= !kept;", "changed = !kept;", "only the last point of a round counts as changed"),
     ("fixpoint", "src/solve.rt", "Direction::Backward => self.points[p].leads_to(q)", "Direction::Backward => self.points[q].leads_to(p)", "a backward table over predecessors"),
     ("rowkinds", "src/ages/kind.rt", "grow(self.ways, near, row.ages[b], row.ages[i])", "grow(self.ways, near, self.ways, row.ages[i])", "all blocks of the set grow older"),
     ("widest", "src/next_uses/kind.rt", "Some(access) if access.block < self.blocks as usize => {", "Some(access) if access.block < self.blocks as usize && access.conflicts.is_some() => {", "an access without count keeps the old one"),
