@@ -1,20 +1,28 @@
-use Rattle.std.proofs.Common.{get_or, sym, ◌∙◌, arith, rules}
-use lib.ListN.{length-map}
-use Rattle.std.proofs.lemmas.List.{ext_get_or}
+use Rattle.std.proofs.Common.{◌≡◌, ℕ, suc, ◌+◌, List, map, length, take, set, ap, ◌∙◌, arith}
+use Rattle.std.proofs.lemmas.List.{take_all}
 use Rattle.recency.specs.Blocks.{set_of}
 use Rattle.task.proofs.Drafting.{kept}
-use Rattle.task.specs.Blocks.{distinct_blocks}
 use Rattle.task.specs.Tasks.{contents}
-use Rattle.cells.proofs.Made.{made_at}
-use Rattle.rowkinds.specs.BlockSets.{block_sets, filled_up}
-use Rattle.rowkinds.proofs.Filling.{length_filled, getD_filled}
+use Rattle.rowkinds.specs.BlockSets.{filled_up}
+use Rattle.rowkinds.proofs.Filling.{filled_more}
 use Rattle.rowkinds.proofs.sets.block_sets.Goals as goal
+
+pub loop-i-preserved : goal.loop-i-preserved
+loop-i-preserved c =
+    let t = contents c.args.task.now in
+    let f = set_of t.sets in
+    let bs = c.blocks-blocks.result.now in
+    let i = c.loop-i.i in
+    let few = (kept t c.args.task.now.draft.legal).blocks_few in
+    let long = ap length c.blocks-blocks.ensures.value in
+    let next : suc i ≡ i + 1 = omega arith in
+    ap (λ (zs : List ℕ). set zs i c.set_of.result) c.loop-i.invariant
+    ∙ ap (λ (v : ℕ). set (filled_up 64 (map f (take i bs))) i v) c.set_of.ensures.value
+    ∙ filled_more f 64 i bs (omega arith) (omega arith)
+    ∙ ap (λ (k : ℕ). filled_up 64 (map f (take k bs))) next
 
 pub returns : goal.returns
 returns c =
     let t = contents c.args.task.now in
-    let few = (kept t c.args.task.now.draft.legal).blocks_few in
-    let xs = block_sets t in
-    let made = c.from_fn.ensures.items in
-    ext_get_or 0 c.from_fn.result (filled_up 64 xs) (made.long ∙ sym (length_filled 64 xs))
-    (λ i l. made_at _ _ 64 (λ k. get_or xs k 0) (λ k y q small h. search rules) c.from_fn.result i 0 made (omega (arith, made.long)) ∙ sym (getD_filled 64 xs i (omega (arith, length-map (distinct_blocks t.points) (set_of t.sets), few))))
+    let bs = c.blocks-blocks.result.now in
+    c.loop-i.invariant ∙ ap (λ (zs : List ℕ). filled_up 64 (map (set_of t.sets) zs)) (take_all c.loop-i.i bs (omega arith) ∙ c.blocks-blocks.ensures.value)
